@@ -38,7 +38,7 @@ int main(int argc, char **argv) {
     uint64_t blocks = (uint64_t)argc - 4;
     for (uint64_t b = 0; b < blocks; b++)
         read_block(b, argv[4 + b]);
-    served("check mesh", dmap_check_mesh(mesh, blocks * DMAP_WORDS, scratch, DMAP_SCRATCH));
+    served("check mesh", dmap_check_mesh(mesh, blocks * DMAP_WORDS, 0, scratch, DMAP_SCRATCH));
     if (from >= blocks || to >= blocks) {
         puts("no such block");
         return 1;
@@ -59,7 +59,7 @@ int main(int argc, char **argv) {
         at += size;
     }
     served("release", dmap_release(block(from), DMAP_WORDS, to, serial));
-    served("check mesh", dmap_check_mesh(mesh, blocks * DMAP_WORDS, scratch, DMAP_SCRATCH));
+    served("check mesh", dmap_check_mesh(mesh, blocks * DMAP_WORDS, 0, scratch, DMAP_SCRATCH));
     for (uint64_t b = 0; b < blocks; b++)
         printf("block %u has %u darts\n", (unsigned)b, (unsigned)block(b)[2]);
     return 0;

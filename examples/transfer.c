@@ -35,7 +35,7 @@ int main(int argc, char **argv) {
     told("P's file", dmap_read_file(file, bytes, from, DMAP_WORDS));
     told("empty block 16", dmap_empty(16, to, DMAP_WORDS));
     told("empty block 1", dmap_empty(1, to, DMAP_WORDS));
-    told("check mesh", dmap_check_mesh(mesh, 2 * DMAP_WORDS, scratch, DMAP_SCRATCH));
+    told("check mesh", dmap_check_mesh(mesh, 2 * DMAP_WORDS, 0, scratch, DMAP_SCRATCH));
 
     told("send P, 94 bytes of room", dmap_send(from, DMAP_WORDS, 1, 1, outbox, 94, &written));
     printf("nothing was written: %u bytes\n", (unsigned)written);
@@ -49,9 +49,9 @@ int main(int argc, char **argv) {
     if (told("receive P", dmap_receive(to, DMAP_WORDS, outbox, written)) != DMAP_SERVED)
         return 1;
     told("receive P again", dmap_receive(to, DMAP_WORDS, outbox, written));
-    told("check mesh, P in both", dmap_check_mesh(mesh, 2 * DMAP_WORDS, scratch, DMAP_SCRATCH));
+    told("check mesh, P in both", dmap_check_mesh(mesh, 2 * DMAP_WORDS, 0, scratch, DMAP_SCRATCH));
     told("release P", dmap_release(from, DMAP_WORDS, 1, 1));
-    told("check mesh", dmap_check_mesh(mesh, 2 * DMAP_WORDS, scratch, DMAP_SCRATCH));
+    told("check mesh", dmap_check_mesh(mesh, 2 * DMAP_WORDS, 0, scratch, DMAP_SCRATCH));
     printf("block 0 has %u darts, block 1 has %u\n", (unsigned)from[2], (unsigned)to[2]);
     if (told("save block 1", dmap_save_file(to, DMAP_WORDS, file, sizeof file, &written)) != DMAP_SERVED)
         return 1;

@@ -11,7 +11,7 @@ extern "C" {
     fn dmap_send(block: *const u64, words: usize, to: u64, serial: u64, outbox: *mut u8, room: usize, written: *mut u64) -> u32;
     fn dmap_receive(block: *mut u64, words: usize, message: *const u8, bytes: usize) -> u32;
     fn dmap_release(block: *mut u64, words: usize, to: u64, serial: u64) -> u32;
-    fn dmap_check_mesh(mesh: *const u64, words: usize, scratch: *mut u64, entries: usize) -> u32;
+    fn dmap_check_mesh(mesh: *const u64, words: usize, viewers: u32, scratch: *mut u64, entries: usize) -> u32;
 }
 
 /// Blocks in a row. The pointers below lead to whole slices and never overlap: all that the calls ask of their caller.
@@ -24,7 +24,7 @@ impl Mesh {
 
     fn check(&self) -> u32 {
         let mut scratch = vec![0; 65536];
-        unsafe { dmap_check_mesh(self.0.as_ptr(), self.0.len(), scratch.as_mut_ptr(), scratch.len()) }
+        unsafe { dmap_check_mesh(self.0.as_ptr(), self.0.len(), 0, scratch.as_mut_ptr(), scratch.len()) }
     }
 
     fn empty(&mut self, number: usize) -> u32 {

@@ -258,7 +258,7 @@ static enum found seen(void) {
 /* One look; AGAIN where a save goes on. */
 enum { AGAIN = TROUBLE + 1 };
 
-static int look_once(void) {
+static int look_once(uint32_t viewers) {
     struct mark m = find_mark();
     if (m.error == 0) {
         uint64_t k = committed(m.bytes, m.count);
@@ -268,7 +268,7 @@ static int look_once(void) {
         }
         if (!fits(k))
             return TROUBLE;
-        order(SEE, 0, m.bytes, m.count);
+        order(SEE, viewers, m.bytes, m.count);
         for (uint64_t b = 0; b < blocks; b++)
             if (replies[b].error != 0 || replies[b].b != 0)
                 return AGAIN;
@@ -282,7 +282,7 @@ static int look_once(void) {
         failed("cannot read", "basin.commit", m.error);
         return TROUBLE;
     }
-    order(SEE, 0, NULL, 0);
+    order(SEE, viewers, NULL, 0);
     struct reply kept[MOST_BLOCKS];
     memcpy(kept, replies, sizeof kept);
     bool steady = !is_there("basin.commit");
@@ -294,9 +294,29 @@ static int look_once(void) {
     return steady ? (int)seen() : AGAIN;
 }
 
-enum found read_basin(void) {
+/* Which blocks are viewers': none where there is no such file, which no command writes. */
+static bool read_viewers(uint32_t *viewers) {
+    uint8_t line[VIEWERS_ROOM];
+    size_t count;
+    int error = read_whole("viewers", line, sizeof line, &count);
+    *viewers = 0;
+    if (error == ENOENT)
+        return true;
+    if (error != 0 && error != EFBIG) {
+        failed("cannot read", "viewers", error);
+        return false;
+    }
+    if (error == 0 && viewers_in((const char *)line, count, viewers))
+        return true;
+    fputs("error: viewers is not a line of ascending block numbers, 0 to 15, with one blank between two\n", stderr);
+    return false;
+}
+
+enum found read_basin(uint32_t *viewers) {
+    if (!read_viewers(viewers))
+        return TROUBLE;
     for (int tries = 0; tries < 1000; tries++) {
-        int found = look_once();
+        int found = look_once(*viewers);
         if (found != AGAIN)
             return (enum found)found;
         pause_briefly();

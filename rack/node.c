@@ -5,7 +5,9 @@
 #include <string.h>
 #include <unistd.h>
 
-static uint64_t block[DMAP_WORDS];
+static uint64_t rack_block[DMAP_WORDS], viewer_block[DMAP_VIEWER_WORDS];
+static uint64_t *block = rack_block;
+static bool viewer;    /* whether the block is a viewer's, in its memory */
 static uint8_t outbox[DMAP_OUTBOX], file[FILE_ROOM];
 static uint64_t own, blocks;
 static int held = -1;  /* the block's file, from SEE to STAND */
@@ -24,6 +26,40 @@ static int rank_of(uint64_t b) { return (int)b + 1; }
 
 static void answer(int error, uint64_t b, uint64_t c) { put(0, ANSWER, (uint64_t)error, b, c, NULL, 0); }
 
+/* THE CALLS, the rack's or a viewer's */
+
+static uint32_t send(uint64_t to, uint64_t serial, uint64_t *written) {
+    return viewer ? dmap_viewer_send(block, DMAP_VIEWER_WORDS, to, serial, outbox, sizeof outbox, written)
+                  : dmap_send(block, DMAP_WORDS, to, serial, outbox, sizeof outbox, written);
+}
+
+static uint32_t receive(const struct packet *p) {
+    return viewer ? dmap_viewer_receive(block, DMAP_VIEWER_WORDS, p->bytes, p->count) : dmap_receive(block, DMAP_WORDS, p->bytes, p->count);
+}
+
+static uint32_t release(uint64_t to, uint64_t serial) {
+    return viewer ? dmap_viewer_release(block, DMAP_VIEWER_WORDS, to, serial) : dmap_release(block, DMAP_WORDS, to, serial);
+}
+
+static uint32_t redirect(const struct packet *p) {
+    return viewer ? dmap_viewer_redirect(block, DMAP_VIEWER_WORDS, p->bytes, p->count) : dmap_redirect(block, DMAP_WORDS, p->bytes, p->count);
+}
+
+static uint32_t save_file(uint64_t *count) {
+    return viewer ? dmap_viewer_save_file(block, DMAP_VIEWER_WORDS, file, sizeof file, count)
+                  : dmap_save_file(block, DMAP_WORDS, file, sizeof file, count);
+}
+
+/* A viewer's block goes to a viewer's memory; one with too many darts stays in the rack's, and the mesh check refuses it. */
+static uint32_t read_block(size_t count, bool of_viewer) {
+    uint32_t no = dmap_read_file(file, count, rack_block, DMAP_WORDS);
+    block = rack_block;
+    viewer = of_viewer && no == DMAP_SERVED && dmap_viewer_read_file(file, count, viewer_block, DMAP_VIEWER_WORDS) == DMAP_SERVED;
+    if (viewer)
+        block = viewer_block;
+    return no;
+}
+
 /* A ROUND */
 
 static void end_round(uint64_t outcome) {
@@ -39,7 +75,7 @@ static void request(const struct packet *p) {
     }
     uint64_t start = nanoseconds(), written = 0;
     play.to = p->a, play.serial = p->b;
-    uint32_t no = dmap_send(block, DMAP_WORDS, play.to, play.serial, outbox, sizeof outbox, &written);
+    uint32_t no = send(play.to, play.serial, &written);
     play.spent.calls = play.spent.path = nanoseconds() - start;
     /* A block that the basin has not receives nothing: a no to 1. */
     if (no == DMAP_SERVED && play.to >= blocks)
@@ -55,7 +91,7 @@ static void request(const struct packet *p) {
 
 static void transfer(const struct packet *p) {
     uint64_t start = nanoseconds();
-    uint64_t no = p->whole ? dmap_receive(block, DMAP_WORDS, p->bytes, p->count) : ALTERED;
+    uint64_t no = p->whole ? receive(p) : ALTERED;
     put(p->rank, TAKEN, no, nanoseconds() - start, 0, NULL, 0);
 }
 
@@ -84,7 +120,7 @@ static void taken(const struct packet *p) {
         at += size;
     }
     uint64_t start = nanoseconds();
-    if (dmap_release(block, DMAP_WORDS, play.to, play.serial) != DMAP_SERVED)
+    if (release(play.to, play.serial) != DMAP_SERVED)
         play.outcome = UNFINISHED;
     play.last = nanoseconds() - start;
     play.spent.calls += play.last;
@@ -94,7 +130,7 @@ static void taken(const struct packet *p) {
 
 static void update(const struct packet *p) {
     uint64_t start = nanoseconds();
-    uint64_t no = p->whole ? dmap_redirect(block, DMAP_WORDS, p->bytes, p->count) : ALTERED;
+    uint64_t no = p->whole ? redirect(p) : ALTERED;
     put(p->rank, TOLD, no, nanoseconds() - start, 0, NULL, 0);
 }
 
@@ -155,7 +191,7 @@ static void see(const struct packet *p) {
         if (error == 0)
             error = read_open(held, file, sizeof file, &count);
     }
-    answer(error, error == 0 ? dmap_read_file(file, count, block, DMAP_WORDS) : 0, 0);
+    answer(error, error == 0 ? read_block(count, p->a >> own & 1) : 0, 0);
 }
 
 /* Whether no commit came, and the block's name still leads to the file that was read. */
@@ -198,7 +234,7 @@ static void tidy(uint64_t k) {
 static void write_new(void) {
     uint64_t count = 0;
     struct entry e = {0, 0};
-    int error = dmap_save_file(block, DMAP_WORDS, file, sizeof file, &count) == DMAP_SERVED ? keep_names() : EIO;
+    int error = save_file(&count) == DMAP_SERVED ? keep_names() : EIO;
     if (error == 0)
         error = write_whole(new_name(own).text, file, (size_t)count);
     if (error == 0)

@@ -13,6 +13,7 @@ enum { DONE = 0, NO = 1, ERROR = 2 };
 enum { MOST_REQUESTS = 16384, MOST_MOVES = 65536, INPUT_ROOM = 524288 };
 
 static uint64_t blocks, mesh[MOST_BLOCKS * DMAP_WORDS], scratch[DMAP_SCRATCH];
+static uint32_t viewers; /* bit b: block b is a viewer's */
 static struct { bool dry, whole; uint64_t every; const char *log; } options;
 static FILE *journal;
 static uint64_t rounds, unsaved; /* rounds so far; those that moved a cell since the last save */
@@ -42,7 +43,7 @@ static bool fetch_all(void) {
     return true;
 }
 
-static uint32_t asked(uint64_t k) { return dmap_check_mesh(mesh, k * DMAP_WORDS, scratch, DMAP_SCRATCH); }
+static uint32_t asked(uint64_t k) { return dmap_check_mesh(mesh, k * DMAP_WORDS, viewers, scratch, DMAP_SCRATCH); }
 
 /* The first block that has a dart critical with block m; how many there are where none has. */
 static uint64_t first_naming(uint64_t m) {
@@ -56,10 +57,12 @@ static uint64_t first_naming(uint64_t m) {
 /* Which files a refusal is about. */
 static void say_where(uint32_t question) {
     uint64_t b = 0;
-    if (question == DMAP_BLOCK_NUMBERS || question == DMAP_SERIALS_REPEATED) {
+    if (question == DMAP_NOT_AN_IMAGE || question == DMAP_BLOCK_NUMBERS || question == DMAP_SERIALS_REPEATED) {
         while (b + 1 < blocks && asked(b + 1) != question)
             b++;
         fputs(block_name(b).text, stdout);
+        if (question == DMAP_NOT_AN_IMAGE)
+            printf(", with %u darts", (unsigned)figures_of(mesh + b * DMAP_WORDS).darts);
         return;
     }
     for (uint64_t m = blocks; m < MOST_BLOCKS && question == DMAP_LABELS_UNPAIRED; m++)
@@ -81,15 +84,17 @@ static bool is_sound(void) {
 }
 
 static int check(void) {
-    enum found found = read_basin();
+    enum found found = read_basin(&viewers);
     if (found != BLOCKS)
         return found == REFUSED ? NO : ERROR;
     if (!fetch_all())
         return ERROR;
     for (uint64_t b = 0; b < blocks; b++) {
         struct figures f = figures_of(mesh + b * DMAP_WORDS);
-        printf("block %u: %u darts, %u volumes in %u piece%s, %u critical faces, counter %u\n", (unsigned)b, (unsigned)f.darts,
-               (unsigned)f.volumes, (unsigned)f.pieces, f.pieces == 1 ? "" : "s", (unsigned)f.critical, (unsigned)f.counter);
+        uint64_t number = mesh[b * DMAP_WORDS];
+        printf("block %u: %u darts, %u volumes in %u piece%s, %u critical faces, counter %u%s\n", (unsigned)b, (unsigned)f.darts,
+               (unsigned)f.volumes, (unsigned)f.pieces, f.pieces == 1 ? "" : "s", (unsigned)f.critical, (unsigned)f.counter,
+               number < MOST_BLOCKS && viewers >> number & 1 ? ", viewer" : "");
     }
     if (!is_sound())
         return NO;
@@ -266,8 +271,8 @@ static int balance(const struct oracle *o) {
     if (!is_sound())
         return NO;
     for (unsigned moves = 0;; moves++) {
-        uint32_t question = dmap_next_move(mesh, blocks * DMAP_WORDS, o->which, o->axis, o->low[0], o->low[1], o->low[2], o->high[0], o->high[1],
-                                           o->high[2], scratch, DMAP_SCRATCH, answer, DMAP_ANSWER);
+        uint32_t question = dmap_next_move(mesh, blocks * DMAP_WORDS, viewers, o->which, o->axis, o->low[0], o->low[1], o->low[2], o->high[0],
+                                           o->high[1], o->high[2], scratch, DMAP_SCRATCH, answer, DMAP_ANSWER);
         if (question != DMAP_SERVED) {
             printf("refused %u: %s\n", (unsigned)question, meaning(question));
             return NO;
@@ -364,7 +369,7 @@ static int measure(size_t count) {
 enum command { CHECK, PLAY, BALANCE, MEASURE };
 
 static int carry_out(enum command c, size_t count, const struct oracle *o) {
-    enum found found = read_basin();
+    enum found found = read_basin(&viewers);
     if (found != BLOCKS)
         return found == REFUSED ? NO : ERROR;
     if (!fetch_all())

@@ -1,4 +1,5 @@
-/* A basin over the nodes of a rack: rank 0 is the coordinator, rank b + 1 holds block b in its memory and its file in its folder.
+/* A basin over the nodes of a rack: rank 0 is the coordinator, rank b + 1 holds block b in its memory and its file in its folder. Some blocks may be
+ * viewers', by the file viewers of the coordinator's folder: their ranks have a viewer's memory and make a viewer's calls.
  * Every decision about a mesh is a call of the library (dmap.h); what is here delivers messages and keeps files. */
 #ifndef RACK_H
 #define RACK_H
@@ -14,6 +15,7 @@ enum {
     COMMIT_ROOM = 512,     /* so is a commit */
     LOCK_ROOM = 262144,    /* so is a lock's file */
     LINE_ROOM = 192,       /* so is the line of a process in it */
+    VIEWERS_ROOM = 64,     /* and so is a line of viewers */
     UNFINISHED = 255,      /* outcome of a round that was taken and not finished */
     ALTERED = 254          /* outcome of a round of which a packet was altered on the way */
 };
@@ -26,7 +28,7 @@ enum kind {
     TAKEN, TOLD,           /* to the donor: a the answer to a transfer or an update, b how long the call took */
     ROUND,                 /* to the coordinator: a the outcome, b the blocks that changed as bits; behind them a struct spent */
     LINE, LOCK, UNLOCK,    /* to all: the line of the process; take part in the lock of the run, whose lines are behind; give it back */
-    COMMIT, SEE, STAND,    /* what basin.commit is; read the block; whether its name still leads to what was read */
+    COMMIT, SEE, STAND,    /* what basin.commit is; read the block, a the viewers; whether its name still leads to what was read */
     LOOK, TIDY,            /* whether the block's files are those of a commit; mend them, a how many blocks it has */
     WRITE, MARK, PLACE, UNMARK, /* the steps of a save */
     IMAGE,                 /* the words of the block */
@@ -112,7 +114,8 @@ bool lock_basin(void);
 void unlock_basin(void);
 bool mend_basin(void);
 bool save_basin(void);
-enum found read_basin(void);
+/* And which blocks are viewers', as bits. */
+enum found read_basin(uint32_t *viewers);
 /* The words of a block, fetched into a mesh. */
 bool fetch(uint64_t block, uint64_t *mesh);
 
@@ -126,6 +129,7 @@ struct figures figures_of(const uint64_t *block);
 enum line { A_REQUEST, A_BLANK, ANOTHER };
 enum line line_of(const char *line, size_t count, uint64_t request[3]);
 bool number_in(const char *text, size_t count, uint64_t *value);
+bool viewers_in(const char *text, size_t count, uint32_t *viewers);
 bool decimal_in(const char *text, double *value);
 const char *meaning(uint32_t question);
 const char *cause(int error);

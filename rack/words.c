@@ -17,6 +17,28 @@ bool number_in(const char *text, size_t count, uint64_t *value) {
     return count > 0;
 }
 
+/* One line: block numbers, ascending, a blank between two, and a line feed; as bits. */
+bool viewers_in(const char *text, size_t count, uint32_t *viewers) {
+    size_t at = 0, least = 0;
+    *viewers = 0;
+    if (count == 1 && text[0] == '\n')
+        return true;
+    while (at < count) {
+        uint64_t block;
+        size_t from = at;
+        while (at < count && text[at] != ' ' && text[at] != '\n')
+            at++;
+        /* Below 16, so at most two digits, and no zero in front. */
+        if (!number_in(text + from, at - from, &block) || block >= MOST_BLOCKS || block < least || (at - from == 2) != (block > 9) || at == count)
+            return false;
+        *viewers |= (uint32_t)1 << block;
+        least = (size_t)block + 1;
+        if (text[at++] == '\n')
+            return at == count;
+    }
+    return false;
+}
+
 static bool is_blank(char c) { return c == ' ' || c == '\t' || c == '\r'; }
 
 /* Three numbers below 2^32 and nothing behind them; no word at all; anything else. */
@@ -75,6 +97,7 @@ bool decimal_in(const char *text, double *value) {
 
 const char *meaning(uint32_t question) {
     switch (question) {
+    case 2: return "a viewer's block has more than 256 darts";
     case 3: return "the file is cut off, too long, or has a number out of range";
     case 4: return "a coordinate is not finite";
     case 5: return "next or opposite links are wrong";
@@ -83,17 +106,18 @@ const char *meaning(uint32_t question) {
     case 8: return "points that should agree differ";
     case 9: return "the destination is the block itself, or above 15";
     case 10: return "the block does not hold this serial";
-    case 11: return "the cell has more than 512 darts";
+    case 11: return "the cell has more than 512 darts, or more than 64 and an end is a viewer's";
     case 12: return "the cell is sewn to itself";
     case 13: return "two edges of the cell join the same two corners, or an edge ends where it starts";
     case 14: return "the block's counter is at its end";
-    case 21: return "the destination would have more than 4096 darts";
+    case 21: return "the destination would have more than 4096 darts, or as a viewer's more than 256";
     case 23: return "a block's number is not that of its file";
     case 24: return "a serial occurs in two blocks";
     case 25: return "a label is not paired between the two blocks that it joins";
     case 26: return "points differ across two blocks";
     case 27: return "a label's maker is not here, or its number is not below the maker's counter";
     case 28: return "the oracle's numbers are wrong: low above high, or an axis other than 0 to 2";
+    case 29: return "the cell has more than 64 darts, and the destination is a viewer's";
     default: return "the basin has no such block";
     }
 }

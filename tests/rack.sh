@@ -73,6 +73,17 @@ printf '0 1\n' >"$work/input"; both 4 play
 printf x >"$work/one/block-03.dmap"; cp "$work"/{one,two}/block-03.dmap; both 4 check
 cp "$work/one/block-02.dmap" "$work/one/block-03.dmap"; cp "$work"/{one,two}/block-03.dmap; both 4 check
 
+# Some blocks are viewers': there is room for ten cells in one. Then lines of viewers that are none, numbers of blocks that are not there, and a viewer's
+# block with too many darts.
+of_blocks one 4; printf '1 3\n' >viewers; rm -rf "$work/two"; cp -r "$work/one" "$work/two"
+: >"$work/input"; both 4 check; both 4 balance plane 2 1.5
+awk '{ print; print $1, 1, $3; print 3, $1, $3 } NR % 5 == 0 { print $1, $1, $3; print $1, 99, $3; print 1, 3, 9999 }' "$work/one.list" >"$work/input"; both 4 play
+: >"$work/input"; both 4 balance all
+for line in '' '1' '1 0\n' '1 1\n' '01\n' '16\n' '1  3\n' ' 1\n' '1 \n' '1\n3\n' '1,3\n' '-1\n' '\n' '3 9 15\n'; do
+    printf -- "$line" >"$work/one/viewers"; cp "$work"/{one,two}/viewers; both 4 check
+done
+fresh one; printf '0 1\n' >viewers; rm -rf "$work/two"; cp -r "$work/one" "$work/two"; both 3 check; both 3 balance all
+
 # Begun by one, ended by the other: a balance saved after every move and left in the middle, a save that dispatch left cut, a log that is played again.
 fresh end; "$dispatch" split 4 >"$work/moves"
 fresh run; "$dispatch" add 4 >/dev/null; head -n 5 "$work/moves" | rack 4 play --log "$work/log" >/dev/null; "$dispatch" balance all >/dev/null

@@ -4,11 +4,12 @@ use crate::clock::{median, now};
 use crate::table::Times;
 use crate::SHUFFLES;
 use compare::archive::Archive;
-use peer::image::{self, WORDS};
+use peer::image;
 use peer::lent::Core;
 use peer::message;
 use peer::plain::Plain;
 use peer::scenes::{self, Round};
+use peer::value::Site;
 use std::hint::black_box;
 
 /// Blocks before a call, what is sent in the round from 0 to 1, and the file of block 0.
@@ -20,6 +21,7 @@ struct Setting {
 
 /// What a call works on: blocks 0, 1 and 2, and room for bytes.
 struct Lent {
+    site: Site,
     blocks: Vec<Vec<u64>>,
     bytes: Vec<u8>,
     written: u64,
@@ -44,21 +46,21 @@ pub const CALLS: [Call; 9] = [
         of_a_cell: false,
         answer: 0,
         blocks: &[0],
-        make: |core, lent, _| core.empty(7, &mut lent.blocks[0]),
+        make: |core, lent, _| core.empty(lent.site, 7, &mut lent.blocks[0]),
     },
     Call {
         name: "read file",
         of_a_cell: false,
         answer: 0,
         blocks: &[0],
-        make: |core, lent, setting| core.read_file(&setting.file, &mut lent.blocks[0]),
+        make: |core, lent, setting| core.read_file(lent.site, &setting.file, &mut lent.blocks[0]),
     },
     Call {
         name: "save file",
         of_a_cell: false,
         answer: 0,
         blocks: &[0],
-        make: |core, lent, _| core.save_file(&lent.blocks[0], &mut lent.bytes, &mut lent.written),
+        make: |core, lent, _| core.save_file(lent.site, &lent.blocks[0], &mut lent.bytes, &mut lent.written),
     },
     Call { name: "send", of_a_cell: true, answer: 0, blocks: &[0], make: send },
     Call {
@@ -66,40 +68,40 @@ pub const CALLS: [Call; 9] = [
         of_a_cell: true,
         answer: 0,
         blocks: &[1],
-        make: |core, lent, setting| core.receive(&mut lent.blocks[1], &setting.messages[0]),
+        make: |core, lent, setting| core.receive(lent.site, &mut lent.blocks[1], &setting.messages[0]),
     },
     Call {
         name: "release",
         of_a_cell: true,
         answer: 0,
         blocks: &[0],
-        make: |core, lent, setting| core.release(&mut lent.blocks[0], 1, setting.round.serial),
+        make: |core, lent, setting| core.release(lent.site, &mut lent.blocks[0], 1, setting.round.serial),
     },
     Call {
         name: "redirect",
         of_a_cell: true,
         answer: 0,
         blocks: &[2],
-        make: |core, lent, setting| core.redirect(&mut lent.blocks[2], &setting.messages[1]),
+        make: |core, lent, setting| core.redirect(lent.site, &mut lent.blocks[2], &setting.messages[1]),
     },
     Call { name: ROUND, of_a_cell: true, answer: 0, blocks: &[0, 1, 2], make: round },
 ];
 
 /// A message of no bytes is refused by 16, right after question 2.
 fn question_2(core: &dyn Core, lent: &mut Lent, _: &Setting) -> u32 {
-    core.receive(&mut lent.blocks[0], &[])
+    core.receive(lent.site, &mut lent.blocks[0], &[])
 }
 
 fn send(core: &dyn Core, lent: &mut Lent, setting: &Setting) -> u32 {
-    core.send(&lent.blocks[0], 1, setting.round.serial, &mut lent.bytes, &mut lent.written)
+    core.send(lent.site, &lent.blocks[0], 1, setting.round.serial, &mut lent.bytes, &mut lent.written)
 }
 
 fn round(core: &dyn Core, lent: &mut Lent, setting: &Setting) -> u32 {
     let sent = send(core, lent, setting);
     let messages = message::split(&lent.bytes[..lent.written as usize]).unwrap_or_default();
-    let taken = core.receive(&mut lent.blocks[1], messages[0]);
-    let released = core.release(&mut lent.blocks[0], 1, setting.round.serial);
-    sent + taken + released + core.redirect(&mut lent.blocks[2], messages[1])
+    let taken = core.receive(lent.site, &mut lent.blocks[1], messages[0]);
+    let released = core.release(lent.site, &mut lent.blocks[0], 1, setting.round.serial);
+    sent + taken + released + core.redirect(lent.site, &mut lent.blocks[2], messages[1])
 }
 
 /// How the number of a face gives that of its labels, where all faces are critical.
@@ -128,24 +130,25 @@ pub struct Desk {
 }
 
 impl Desk {
-    /// A cell of 24 or of 512 darts that moves between blocks of about so many.
-    pub fn rounds(large: bool, shuffled: bool, darts: usize) -> Desk {
+    /// A cell of 24 darts, or of 512 or 64, that moves between blocks of about so many, all the rack's or all viewers'.
+    pub fn rounds(site: Site, large: bool, shuffled: bool, darts: usize) -> Desk {
         let seeds: Vec<Option<u64>> = if shuffled { (1..=SHUFFLES).map(Some).collect() } else { vec![None] };
-        let settings = seeds.iter().map(|seed| Setting::of(scenes::round(large, *seed, darts)));
+        let settings = seeds.iter().map(|seed| Setting::of(scenes::round(site, large, *seed, darts)));
         Desk { settings: settings.collect() }
     }
 
     /// A block all of whose darts are critical; for question 2.
     pub fn critical(labels: Labels, shuffled: bool) -> Desk {
         let block = scenes::critical(scenes::hexahedra(shuffled), usize::MAX, labels);
-        let round = Round { images: vec![image::encode(&block)], serial: 0 };
+        let round = Round { site: Site::Rack, images: vec![image::encode(&block)], serial: 0 };
         Desk { settings: vec![Setting { round, messages: Vec::new(), file: Vec::new() }] }
     }
 
     /// The medians of a call over so many turns: plain, proved, a copy of the blocks that it works on.
     pub fn times(&self, call: &Call, turns: usize) -> Times {
         let mut lent = self.lent();
-        let mut copy = vec![0; WORDS * call.blocks.len()];
+        let words = lent.site.words();
+        let mut copy = vec![0; words * call.blocks.len()];
         let mut times = [(); 3].map(|()| Vec::with_capacity(turns));
         for turn in 0..turns {
             let [plain, proved, copied] =
@@ -154,8 +157,8 @@ impl Desk {
             times[1].push(lent.time(call, &Archive, proved));
             lent.reset(copied);
             let start = now();
-            for (words, block) in copy.chunks_exact_mut(WORDS).zip(call.blocks) {
-                words.copy_from_slice(black_box(&lent.blocks[*block]));
+            for (copied, block) in copy.chunks_exact_mut(words).zip(call.blocks) {
+                copied.copy_from_slice(black_box(&lent.blocks[*block]));
             }
             black_box(&copy);
             times[2].push(now() - start);
@@ -176,7 +179,8 @@ impl Desk {
     }
 
     fn lent(&self) -> Lent {
-        Lent { blocks: self.settings[0].round.images.clone(), bytes: vec![0; 200_712], written: 0 }
+        let round = &self.settings[0].round;
+        Lent { site: round.site, blocks: round.images.clone(), bytes: vec![0; 200_712], written: 0 }
     }
 }
 
@@ -202,11 +206,11 @@ impl Setting {
     fn of(round: Round) -> Setting {
         let mut bytes = vec![0; 200_712];
         let mut written = 0;
-        assert_eq!(Plain.send(&round.images[0], 1, round.serial, &mut bytes, &mut written), 0);
+        assert_eq!(Plain.send(round.site, &round.images[0], 1, round.serial, &mut bytes, &mut written), 0);
         let messages = message::split(&bytes[..written as usize]).unwrap_or_default();
         assert_eq!(messages.len(), 2);
         let messages = messages.into_iter().map(<[u8]>::to_vec).collect();
-        assert_eq!(Plain.save_file(&round.images[0], &mut bytes, &mut written), 0);
+        assert_eq!(Plain.save_file(round.site, &round.images[0], &mut bytes, &mut written), 0);
         bytes.truncate(written as usize);
         Setting { round, messages, file: bytes }
     }

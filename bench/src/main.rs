@@ -1,5 +1,5 @@
 //! The public calls on nearly full blocks: the archive's version beside the plain one and a copy of what it works on, and how each grows. All take
-//! turns in one run; what is printed, as Markdown, are medians of processor time. A word (block, mesh, growth) prints one table alone.
+//! turns in one run; what is printed, as Markdown, are medians of processor time. A word (block, viewer, mesh, growth) prints one table alone.
 
 mod clock;
 mod desk;
@@ -8,6 +8,7 @@ mod table;
 
 use desk::{Desk, CALLS, ROUND};
 use meshes::Hall;
+use peer::value::Site;
 use table::{growth_head, growth_row, head, row, Limit};
 
 /// A prime number of blocks with shuffled serials, so that each call has each block: one alone the branch prediction learns by heart.
@@ -25,7 +26,7 @@ fn calls_of_a_block() {
     head("call", "a copy of the block");
     for large in [false, true] {
         for shuffled in [false, true] {
-            let desk = Desk::rounds(large, shuffled, 4080);
+            let desk = Desk::rounds(Site::Rack, large, shuffled, 4080);
             for call in CALLS.iter().filter(|call| call.of_a_cell || !large) {
                 let cell = match (call.of_a_cell, large) {
                     (false, _) => "",
@@ -51,6 +52,24 @@ fn calls_of_a_block() {
     }
 }
 
+/// Rounds go from viewer to viewer.
+fn calls_of_a_viewer() {
+    head("call", "a copy of the block");
+    for large in [false, true] {
+        for shuffled in [false, true] {
+            let desk = Desk::rounds(Site::Viewer, large, shuffled, 256);
+            for call in CALLS.iter().filter(|call| call.of_a_cell || !large) {
+                let cell = match (call.of_a_cell, large) {
+                    (false, _) => "",
+                    (true, false) => ", 24-dart cell",
+                    (true, true) => ", 64-dart cell",
+                };
+                row(&format!("{}{cell}", call.name), serials(shuffled), desk.times(call, 1501), Limit::none());
+            }
+        }
+    }
+}
+
 fn calls_of_a_mesh() {
     head("call", "a copy of the mesh");
     for shuffled in [false, true] {
@@ -66,7 +85,7 @@ fn growth() {
     for large in [false, true] {
         // A cell of 512 darts and what is sewn to it is in no smaller block.
         let sizes = if large { &sizes[2..] } else { &sizes[..] };
-        let desks: Vec<Desk> = sizes.iter().map(|darts| Desk::rounds(large, true, *darts)).collect();
+        let desks: Vec<Desk> = sizes.iter().map(|darts| Desk::rounds(Site::Rack, large, true, *darts)).collect();
         for call in CALLS.iter().filter(|call| call.of_a_cell || !large) {
             let cell = if !call.of_a_cell {
                 ""
@@ -92,6 +111,10 @@ fn main() {
     if wanted("block") {
         println!("Blocks of about 4,080 darts.\n");
         calls_of_a_block();
+    }
+    if wanted("viewer") {
+        println!("\nA viewer's calls on its blocks of 256 darts.\n");
+        calls_of_a_viewer();
     }
     if wanted("mesh") {
         println!("\nMeshes of sixteen such blocks.\n");

@@ -7,6 +7,7 @@ use peer::image::{ANSWER, SCRATCH};
 use peer::lent::{Core, OracleNumbers};
 use peer::plain::Plain;
 use peer::scenes;
+use peer::value::Viewers;
 use std::hint::black_box;
 use std::rc::Rc;
 
@@ -74,8 +75,8 @@ impl Hall {
         let mut answer = [9; ANSWER];
         let start = now();
         let number = match &self.next_move {
-            None => core.check_mesh(mesh, scratch),
-            Some((oracle, _)) => core.next_move(mesh, oracle, scratch, &mut answer),
+            None => core.check_mesh(mesh, Viewers::NONE, scratch),
+            Some((oracle, _)) => core.next_move(mesh, Viewers::NONE, oracle, scratch, &mut answer),
         };
         let time = now() - start;
         assert_eq!(number, 0, "{}", self.name);

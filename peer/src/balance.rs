@@ -3,7 +3,7 @@
 use crate::calls;
 use crate::cells;
 use crate::mesh;
-use crate::value::{ask, Answer, Block, Point, MAX_BLOCKS, MAX_DARTS};
+use crate::value::{ask, Answer, Block, Point, Viewers, MAX_BLOCKS};
 use std::collections::BTreeSet;
 
 /// The oracle picks volumes.
@@ -62,10 +62,10 @@ pub struct NextMove {
 }
 
 /// The next move of a mesh of sound blocks: questions 23 to 28, then the rule.
-pub fn next_move(blocks: &[Block], oracle: &Oracle) -> Answer<NextMove> {
+pub fn next_move(blocks: &[Block], viewers: Viewers, oracle: &Oracle) -> Answer<NextMove> {
     mesh::check(blocks)?;
     ask(28, oracle.is_right())?;
-    Ok(by_rule(blocks, oracle))
+    Ok(by_rule(blocks, viewers, oracle))
 }
 
 /// The picked volumes of each block, by least serial.
@@ -85,7 +85,7 @@ pub fn counts(blocks: &[Block], oracle: &Oracle) -> Vec<usize> {
 }
 
 /// The rule on a sound mesh and a right oracle.
-pub fn by_rule(blocks: &[Block], oracle: &Oracle) -> NextMove {
+pub fn by_rule(blocks: &[Block], viewers: Viewers, oracle: &Oracle) -> NextMove {
     let picked = picked(blocks, oracle);
     let total: usize = picked.iter().map(Vec::len).sum();
     let mean = (total / blocks.len()) as u32;
@@ -93,11 +93,11 @@ pub fn by_rule(blocks: &[Block], oracle: &Oracle) -> NextMove {
     for (surplus, cells) in surplus.iter_mut().zip(&picked) {
         *surplus = cells.len() as i32 - mean as i32;
     }
-    NextMove { choice: choose(blocks, &picked), mean, surplus }
+    NextMove { choice: choose(blocks, viewers, &picked), mean, surplus }
 }
 
 /// The least donor, recipient and volume, the donor having at least two picked volumes more than the recipient.
-fn choose(blocks: &[Block], picked: &[Vec<BTreeSet<u32>>]) -> Choice {
+fn choose(blocks: &[Block], viewers: Viewers, picked: &[Vec<BTreeSet<u32>>]) -> Choice {
     let all = 0..blocks.len();
     let pairs: Vec<(usize, usize)> = all
         .clone()
@@ -111,9 +111,10 @@ fn choose(blocks: &[Block], picked: &[Vec<BTreeSet<u32>>]) -> Choice {
     for (donor, recipient) in pairs {
         for cell in &picked[donor] {
             let serial = cell.first().copied().unwrap_or(0);
-            let may_leave = calls::may_leave(&blocks[donor], recipient as u64, u64::from(serial));
+            let most = viewers.cell(donor, recipient);
+            let may_leave = calls::may_leave(most, &blocks[donor], recipient as u64, u64::from(serial));
             // Question 21 of the recipient.
-            if may_leave && blocks[recipient].darts.len() + cell.len() <= MAX_DARTS {
+            if may_leave && blocks[recipient].darts.len() + cell.len() <= viewers.darts(recipient) {
                 return Choice::Move { donor: donor as u8, recipient: recipient as u8, serial };
             }
         }

@@ -1,12 +1,13 @@
 //! The calls on values. Each asks its questions in the paper's order; the first no gives its number.
 //!
-//! Questions 1 and 2 belong to lent memory and are asked in `lent`; blocks given here are sound.
+//! Questions 1 and 2 belong to lent memory and are asked in `lent`; blocks given here are sound. What 3, 11, 21 and 29 read
+//! are the limits of the caller, the rack's or a viewer's.
 
 use crate::cells;
 use crate::file;
 use crate::message::{self, Index, Message, Transfer, Update};
 use crate::sound;
-use crate::value::{ask, Answer, Block, Dart, Label, Links, No, Third, MAX_BLOCKS, MAX_CELL, MAX_DARTS};
+use crate::value::{ask, Answer, Block, Dart, Label, Limits, Links, No, Third, MAX_BLOCKS};
 use std::collections::{BTreeMap, BTreeSet};
 
 /// An empty block is made from its number alone.
@@ -16,8 +17,8 @@ pub fn empty(number: u64) -> Answer<Block> {
 }
 
 /// Reads a block file.
-pub fn read_file(bytes: &[u8]) -> Answer<Block> {
-    let block = file::decode(bytes).ok_or(No(3))?;
+pub fn read_file(limits: Limits, bytes: &[u8]) -> Answer<Block> {
+    let block = file::decode(bytes, limits).ok_or(No(3))?;
     ask(4, sound::coordinates_finite(&block))?;
     ask(5, sound::next_and_opposite_right(&block))?;
     ask(6, sound::thirds_right(&block))?;
@@ -48,13 +49,13 @@ impl Departure {
     }
 }
 
-/// Questions 9 to 14, the same for send and release.
-fn departure(block: &Block, to: u64, serial: u64) -> Answer<Departure> {
+/// Questions 9 to 14, the same for send and release; 11 reads `most`.
+fn departure(most: usize, block: &Block, to: u64, serial: u64) -> Answer<Departure> {
     ask(9, to < MAX_BLOCKS as u64 && to != u64::from(block.number))?;
     let serial = u32::try_from(serial).map_err(|_| No(10))?;
     ask(10, block.darts.contains_key(&serial))?;
     let cell = cells::volume(block, serial);
-    ask(11, cell.len() <= MAX_CELL)?;
+    ask(11, cell.len() <= most)?;
     let sewn_within = cell.iter().any(|dart| match block.darts[dart].third {
         Third::Sewn(partner) => cell.contains(&partner),
         _ => false,
@@ -69,14 +70,14 @@ fn departure(block: &Block, to: u64, serial: u64) -> Answer<Departure> {
     Ok(departure)
 }
 
-/// Whether questions 9 to 14 are all answered yes.
-pub fn may_leave(block: &Block, to: u64, serial: u64) -> bool {
-    departure(block, to, serial).is_ok()
+/// Whether questions 9 to 14 are all answered yes of a volume of at most so many darts.
+pub fn may_leave(most: usize, block: &Block, to: u64, serial: u64) -> bool {
+    departure(most, block, to, serial).is_ok()
 }
 
 /// The messages of a round: the transfer, then an update for each relative by ascending number.
-pub fn send(block: &Block, to: u64, serial: u64, room: usize) -> Answer<Vec<u8>> {
-    let departure = departure(block, to, serial)?;
+pub fn send(limits: Limits, block: &Block, to: u64, serial: u64, room: usize) -> Answer<Vec<u8>> {
+    let departure = departure(limits.cell, block, to, serial)?;
     let mut bytes = message::encode(&Message::Transfer(transfer_of(block, &departure)));
     for update in updates_of(block, &departure) {
         bytes.extend(message::encode(&Message::Update(update)));
@@ -135,8 +136,8 @@ fn updates_of(block: &Block, departure: &Departure) -> Vec<Update> {
 }
 
 /// Removes the volume, labels the faces left behind, advances the counter.
-pub fn release(block: &Block, to: u64, serial: u64) -> Answer<Block> {
-    let departure = departure(block, to, serial)?;
+pub fn release(limits: Limits, block: &Block, to: u64, serial: u64) -> Answer<Block> {
+    let departure = departure(limits.cell, block, to, serial)?;
     let mut after = block.clone();
     for face in departure.sewn(block) {
         for (position, dart) in face.iter().enumerate() {
@@ -288,14 +289,16 @@ fn sew_part2(
 }
 
 /// Adds the volume of a transfer; part 2 faces become sewn, their labels go.
-pub fn receive(block: &Block, bytes: &[u8]) -> Answer<Block> {
+pub fn receive(limits: Limits, block: &Block, bytes: &[u8]) -> Answer<Block> {
     let message = message::decode(bytes).ok_or(No(16))?;
     let Message::Transfer(transfer) = message else { return Err(No(17)) };
     ask(17, transfer.to == block.number && transfer.from != block.number)?;
+    // The layout bounds a transfer by the rack's 512, so at the rack this is always so.
+    ask(29, transfer.dart_count() <= limits.cell)?;
     ask(18, coordinates_and_serials(block, &transfer))?;
     let arrival = arrival(&transfer).ok_or(No(19))?;
     let thirds = thirds(block, &transfer).ok_or(No(20))?;
-    ask(21, block.darts.len() + transfer.dart_count() <= MAX_DARTS)?;
+    ask(21, block.darts.len() + transfer.dart_count() <= limits.darts)?;
     let mut after = block.clone();
     for (vertex, serial) in transfer.faces.iter().flatten() {
         let point = transfer.points[*vertex as usize];

@@ -5,15 +5,22 @@ use crate::damage;
 use crate::generate::{self, Size};
 use crate::lent::Core;
 use crate::rng::Rng;
+use crate::vectors;
 use std::collections::BTreeMap;
 
 /// How often each call gave each answer.
 pub type Table = BTreeMap<(&'static str, u32), usize>;
 
-/// Compares two cores on at least so many cases of these calls; the first difference ends it.
+/// Compares two cores on the cases about limits and on at least so many drawn cases of these calls; the first difference ends it.
 pub fn compare(one: &dyn Core, two: &dyn Core, calls: &[Call], seed: u64, wanted: usize) -> Result<Table, String> {
     let mut table = Table::new();
     let mut count = 0;
+    for &call in calls {
+        for (place, case) in vectors::limits(call).iter().enumerate() {
+            let answer = cases::compare(case, one, two).map_err(|what| format!("case {place} about limits: {what}"))?;
+            *table.entry((call.name(), answer)).or_default() += 1;
+        }
+    }
     let mut round = 0;
     while count < wanted {
         round += 1;

@@ -1,7 +1,7 @@
 //! The block file: block, counter, dart count; then each dart.
 
 use crate::groups::{put_tokens, Reader, Token};
-use crate::value::{Block, Dart, Label, Point, Third, MAX_BLOCKS, MAX_DARTS, MAX_POSITION};
+use crate::value::{Block, Dart, Label, Limits, Point, Third, MAX_BLOCKS, MAX_POSITION};
 use std::collections::BTreeMap;
 
 /// The file's items in order. Works on any value, sound or not.
@@ -62,11 +62,11 @@ pub fn encode(block: &Block) -> Vec<u8> {
 }
 
 /// Question 3: the layout to the last byte and its limits.
-pub fn decode(bytes: &[u8]) -> Option<Block> {
+pub fn decode(bytes: &[u8], limits: Limits) -> Option<Block> {
     let mut reader = Reader::new(bytes);
     let number = get_block(&mut reader)?;
     let counter = reader.number()?;
-    let count = reader.at_most(MAX_DARTS as u32)?;
+    let count = reader.at_most(limits.darts as u32)?;
     let mut darts = BTreeMap::new();
     let mut last = 0;
     for _ in 0..count {

@@ -1,9 +1,10 @@
 //! Seeded sound meshes: a map of volumes is cut into blocks, then serials, points, labels and
 //! counters are drawn. Nothing is assumed about labels but what a sound mesh asks.
 
+use crate::image;
 use crate::rng::Rng;
 use crate::shapes::{self, Filling, Map};
-use crate::value::{Block, Dart, Label, Point, Third, MAX_DARTS, MAX_POSITION};
+use crate::value::{Block, Dart, Label, Point, Site, Third, Viewers, MAX_DARTS, MAX_POSITION, VIEWER_DARTS};
 use std::collections::{BTreeMap, BTreeSet};
 
 /// Roughly how many darts a mesh has.
@@ -19,21 +20,56 @@ pub enum Size {
     Large,
 }
 
+/// Blocks, and which of them are viewers'.
+#[derive(Clone, PartialEq, Eq, Debug)]
+pub struct Mesh {
+    pub blocks: Vec<Block>,
+    pub viewers: Viewers,
+}
+
+impl Mesh {
+    /// All blocks the rack's.
+    pub fn of_the_rack(blocks: Vec<Block>) -> Mesh {
+        Mesh { blocks, viewers: Viewers::NONE }
+    }
+
+    /// The images one after the other, the rack's words for each.
+    pub fn words(&self) -> Vec<u64> {
+        self.blocks.iter().flat_map(image::encode).collect()
+    }
+}
+
 /// A sound mesh.
-pub fn mesh(rng: &mut Rng, size: Size) -> Vec<Block> {
+pub fn mesh(rng: &mut Rng, size: Size) -> Mesh {
     let count = if rng.one_in(8) { rng.between(1, 16) } else { rng.between(2, 6) };
     mesh_of(rng, size, count)
 }
 
-/// A sound mesh of so many blocks.
-pub fn mesh_of(rng: &mut Rng, size: Size, count: usize) -> Vec<Block> {
+/// A sound mesh of so many blocks, most with some viewers'.
+pub fn mesh_of(rng: &mut Rng, size: Size, count: usize) -> Mesh {
+    let mut viewers = some_viewers(rng, count);
     let mut map = random_map(rng, size, count);
     sew_some(rng, &mut map);
-    let mut home = homes(rng, &map, count);
-    if size == Size::Large {
-        fill_blocks(rng, &mut map, &mut home, count);
+    let mut home = homes(rng, &map, count, &mut viewers);
+    if size != Size::Tiny {
+        fill_blocks(rng, &mut map, &mut home, size, count, viewers);
     }
-    cut(rng, &map, &home, count)
+    if rng.one_in(2) {
+        // Bits that name no block of the mesh.
+        viewers.0 |= (u64::from(rng.bits() as u32) >> count << count) as u32;
+    }
+    Mesh { blocks: cut(rng, &map, &home, count), viewers }
+}
+
+/// Which of so many blocks are viewers': none, any, seldom all.
+fn some_viewers(rng: &mut Rng, count: usize) -> Viewers {
+    let all = (1u64 << count) as u32 - 1;
+    match rng.below(10) {
+        0..=3 => Viewers::NONE,
+        4 => Viewers(all),
+        5..=6 => Viewers(1 << rng.below(count)),
+        _ => Viewers(rng.bits() as u32 & all),
+    }
 }
 
 /// One shape of a few darts.
@@ -69,6 +105,22 @@ fn random_volumes(rng: &mut Rng, map: &mut Map) -> usize {
         opposite[pair[1]] = pair[0];
     }
     map.add(&next, &opposite, &vec![[0.0; 3]; darts])
+}
+
+/// Cells about the limit of 64 darts, and between it and 512.
+fn middling_shape(rng: &mut Rng, map: &mut Map) {
+    match rng.below(9) {
+        0 => shapes::pillow(map, 32),
+        1 => shapes::pillow(map, 33),
+        2 => shapes::prism(map, rng.between(10, 11)),
+        3 => shapes::torus(map, 4, 4),
+        4 => shapes::pyramid(map, rng.between(16, 17)),
+        5 => shapes::pillow(map, rng.between(28, 40)),
+        6 => shapes::torus(map, 3, rng.between(5, 8)),
+        // Repeated vertex pairs, of more than 64 darts.
+        7 => shapes::torus(map, 2, rng.between(8, 10)),
+        _ => shapes::pillow(map, rng.between(30, 140)),
+    };
 }
 
 /// Cells at and over the limit of 512 darts.
@@ -115,6 +167,14 @@ fn random_map(rng: &mut Rng, size: Size, count: usize) -> Map {
     for _ in 0..extra {
         small_shape(rng, &mut map);
     }
+    let middling = match size {
+        Size::Tiny => 0,
+        Size::Small => usize::from(rng.one_in(3)) * rng.between(1, 2),
+        Size::Medium | Size::Large => rng.between(0, 3),
+    };
+    for _ in 0..middling {
+        middling_shape(rng, &mut map);
+    }
     if matches!(size, Size::Medium | Size::Large) && rng.one_in(3) {
         big_shape(rng, &mut map);
     }
@@ -151,15 +211,16 @@ fn sew_some(rng: &mut Rng, map: &mut Map) {
     }
 }
 
-/// A block for each dart: cells stay whole, blocks hold at most 4,096 darts.
-fn homes(rng: &mut Rng, map: &Map, count: usize) -> Vec<usize> {
+/// A block for each dart: cells stay whole, blocks hold at most 4,096 darts, viewers' 256. Where there is no room the viewers
+/// become fewer.
+fn homes(rng: &mut Rng, map: &Map, count: usize, viewers: &mut Viewers) -> Vec<usize> {
     let (cell, cells) = map.volumes();
     let mut size = vec![0; cells];
     for number in &cell {
         size[*number] += 1;
     }
     let way = rng.below(4);
-    let mut room = vec![MAX_DARTS; count];
+    let mut room: Vec<usize> = (0..count).map(|block| viewers.darts(block)).collect();
     let mut home_of_cell = vec![0; cells];
     for number in 0..cells {
         let wish = match way {
@@ -169,21 +230,33 @@ fn homes(rng: &mut Rng, map: &Map, count: usize) -> Vec<usize> {
             _ => rng.below(count),
         };
         let home = (0..count).map(|step| (wish + step) % count).find(|home| room[*home] >= size[number]);
-        // Maps are drawn to fit, so there is always a home.
+        // Maps are drawn to fit the rack, so there is a home once there are no viewers.
+        let home = home.or_else(|| {
+            let viewer = (0..count).find(|block| viewers.site(*block) == Site::Viewer)?;
+            viewers.0 &= !(1 << viewer);
+            room[viewer] += MAX_DARTS - VIEWER_DARTS;
+            Some(viewer)
+        });
         home_of_cell[number] = home.unwrap_or(0);
         room[home_of_cell[number]] = room[home_of_cell[number]].saturating_sub(size[number]);
     }
     cell.iter().map(|number| home_of_cell[*number]).collect()
 }
 
-/// Fills some blocks up with pillows to 4,096 darts or a few less.
-fn fill_blocks(rng: &mut Rng, map: &mut Map, home: &mut Vec<usize>, count: usize) {
+/// Fills some blocks up with pillows to 4,096 darts or a few less, a viewer's to 256; in small meshes viewers' alone.
+fn fill_blocks(rng: &mut Rng, map: &mut Map, home: &mut Vec<usize>, size: Size, count: usize, viewers: Viewers) {
     for block in 0..count {
-        if count > 2 && rng.one_in(2) {
+        let viewer = viewers.site(block) == Site::Viewer;
+        let filled = match size {
+            Size::Large => count <= 2 || rng.one_in(2),
+            Size::Medium => viewer && rng.one_in(2),
+            _ => viewer && rng.one_in(4),
+        };
+        if !filled {
             continue;
         }
         let held = home.iter().filter(|number| **number == block).count();
-        let goal = MAX_DARTS - if rng.one_in(2) { 0 } else { 2 * rng.between(0, 30) };
+        let goal = viewers.darts(block) - if rng.one_in(2) { 0 } else { 2 * rng.between(0, 30) };
         let mut left = goal.saturating_sub(held);
         while left >= 6 {
             let n = if left < 12 { left / 2 } else { rng.between(3, 256.min(left / 2 - 3)) };

@@ -2,17 +2,31 @@
 //! ascending serial, zeros to the end. Links in memory are places, the index of a dart in that order.
 
 use crate::sound;
-use crate::value::{Block, Dart, Label, Point, Third, MAX_BLOCKS, MAX_DARTS};
+use crate::value::{Block, Dart, Label, Limits, Point, Site, Third, MAX_BLOCKS, RACK, VIEWER};
 use std::collections::BTreeMap;
 
 /// Words of the header, and of each dart.
 pub const RECORD: usize = 8;
-/// Words of a block's memory.
-pub const WORDS: usize = RECORD + RECORD * MAX_DARTS;
+/// Words of a block's memory on the rack, and in a mesh.
+pub const WORDS: usize = words(RACK);
+/// Words of a block's memory at a viewer.
+pub const VIEWER_WORDS: usize = words(VIEWER);
 /// Words of the scratch of the mesh calls.
 pub const SCRATCH: usize = 65_536;
 /// Words of a next move's answer: kind, donor, recipient, serial, mean, a surplus for each block.
 pub const ANSWER: usize = 5 + MAX_BLOCKS;
+
+/// Words of a block's memory by the darts that it may hold.
+const fn words(limits: Limits) -> usize {
+    RECORD + RECORD * limits.darts
+}
+
+impl Site {
+    /// Words of a block's memory.
+    pub fn words(self) -> usize {
+        words(self.limits())
+    }
+}
 
 /// The index of a dart in a block's memory; never an index in a message.
 #[derive(Clone, Copy, PartialEq, Eq, Debug)]
@@ -35,7 +49,12 @@ pub fn label_of(code: u64) -> Option<Label> {
 
 /// The image of a block. A link that is not held, possible in unsound values only, becomes a place past the darts.
 pub fn encode(block: &Block) -> Vec<u64> {
-    let mut words = vec![0; WORDS];
+    encode_at(Site::Rack, block)
+}
+
+/// The same in the memory of a site; darts that it has no room for are left out.
+pub fn encode_at(site: Site, block: &Block) -> Vec<u64> {
+    let mut words = vec![0; site.words()];
     put(block, &mut words);
     words
 }
@@ -65,15 +84,15 @@ pub fn put(block: &Block, words: &mut [u64]) {
     }
 }
 
-/// The block whose image this memory is, sound or not; `None` when it is no image at all.
+/// The block whose image this memory is, sound or not; `None` when it is no image at all. Memory has whole records.
 pub fn decode(words: &[u64]) -> Option<Block> {
-    if words.len() != WORDS {
+    if words.len() < RECORD || !words.len().is_multiple_of(RECORD) {
         return None;
     }
     let (header, records) = words.split_at(RECORD);
     let number = u8::try_from(header[0]).ok()?;
     let counter = u32::try_from(header[1]).ok()?;
-    let count = usize::try_from(header[2]).ok().filter(|count| *count <= MAX_DARTS)?;
+    let count = usize::try_from(header[2]).ok().filter(|count| *count <= records.len() / RECORD)?;
     let (used, unused) = records.split_at(RECORD * count);
     let stray = header[3..].iter().chain(unused).fold(0, |all, word| all | word);
     if usize::from(number) >= MAX_BLOCKS || stray != 0 {
@@ -106,7 +125,7 @@ pub fn decode(words: &[u64]) -> Option<Block> {
     Some(Block { number, counter, darts: darts.into_iter().collect() })
 }
 
-/// Question 2: the block whose image this memory is, if that block is sound.
-pub fn sound_block(words: &[u64]) -> Option<Block> {
-    decode(words).filter(sound::is_sound)
+/// Question 2: the block whose image this memory is, if that block is sound within limits.
+pub fn sound_block(words: &[u64], limits: Limits) -> Option<Block> {
+    decode(words).filter(|block| sound::is_sound(block, limits))
 }

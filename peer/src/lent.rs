@@ -5,7 +5,7 @@ use crate::balance::{self, Choice, NextMove, Oracle};
 use crate::calls;
 use crate::image::{self, ANSWER, SCRATCH, WORDS};
 use crate::mesh;
-use crate::value::{ask, Answer, Block, No, Point};
+use crate::value::{ask, Answer, Block, No, Point, Site, Viewers, RACK};
 
 /// The oracle as numbers: 0 every volume, 1 the box, 2 the plane `axis` at the first float.
 #[derive(Clone, Copy, PartialEq, Eq, Debug)]
@@ -29,32 +29,46 @@ impl OracleNumbers {
     }
 }
 
-/// The calls in the shapes of the C interface. Implementations are compared through it.
+/// The calls in the shapes of the C interface; those on one block are the rack's or a viewer's. Implementations are compared
+/// through it.
 pub trait Core {
-    fn empty(&self, number: u64, block: &mut [u64]) -> u32;
-    fn read_file(&self, file: &[u8], block: &mut [u64]) -> u32;
-    fn save_file(&self, block: &[u64], out: &mut [u8], written: &mut u64) -> u32;
-    fn send(&self, block: &[u64], to: u64, serial: u64, outbox: &mut [u8], written: &mut u64) -> u32;
-    fn receive(&self, block: &mut [u64], message: &[u8]) -> u32;
-    fn release(&self, block: &mut [u64], to: u64, serial: u64) -> u32;
-    fn redirect(&self, block: &mut [u64], message: &[u8]) -> u32;
-    fn check_mesh(&self, mesh: &[u64], scratch: &mut [u64]) -> u32;
-    fn next_move(&self, mesh: &[u64], oracle: &OracleNumbers, scratch: &mut [u64], answer: &mut [u64]) -> u32;
+    fn empty(&self, site: Site, number: u64, block: &mut [u64]) -> u32;
+    fn read_file(&self, site: Site, file: &[u8], block: &mut [u64]) -> u32;
+    fn save_file(&self, site: Site, block: &[u64], out: &mut [u8], written: &mut u64) -> u32;
+    fn send(&self, site: Site, block: &[u64], to: u64, serial: u64, outbox: &mut [u8], written: &mut u64) -> u32;
+    fn receive(&self, site: Site, block: &mut [u64], message: &[u8]) -> u32;
+    fn release(&self, site: Site, block: &mut [u64], to: u64, serial: u64) -> u32;
+    fn redirect(&self, site: Site, block: &mut [u64], message: &[u8]) -> u32;
+    fn check_mesh(&self, mesh: &[u64], viewers: Viewers, scratch: &mut [u64]) -> u32;
+    fn next_move(
+        &self,
+        mesh: &[u64],
+        viewers: Viewers,
+        oracle: &OracleNumbers,
+        scratch: &mut [u64],
+        answer: &mut [u64],
+    ) -> u32;
 }
 
 /// This implementation, on values.
 pub struct Peer;
 
 /// Questions 1 and 2 of a call on one block.
-fn lent_block(words: &[u64]) -> Answer<Block> {
-    ask(1, words.len() == WORDS)?;
-    image::sound_block(words).ok_or(No(2))
+fn lent_block(site: Site, words: &[u64]) -> Answer<Block> {
+    ask(1, words.len() == site.words())?;
+    image::sound_block(words, site.limits()).ok_or(No(2))
 }
 
-/// Questions 1 and 2 of a call on a mesh: 2 for any block comes before 23.
-fn lent_mesh(mesh: &[u64], scratch: &[u64]) -> Answer<Vec<Block>> {
+/// Questions 1 and 2 of a call on a mesh: 2 for any block comes before 23, so a block is a viewer's by the number that its
+/// image tells, wherever it stands.
+fn lent_mesh(mesh: &[u64], viewers: Viewers, scratch: &[u64]) -> Answer<Vec<Block>> {
     ask(1, mesh.len().is_multiple_of(WORDS) && scratch.len() == SCRATCH && scratch.iter().all(|entry| *entry == 0))?;
-    mesh.chunks_exact(WORDS).map(|words| image::sound_block(words).ok_or(No(2))).collect()
+    mesh.chunks_exact(WORDS)
+        .map(|words| {
+            let sound = image::sound_block(words, RACK);
+            sound.filter(|block| block.darts.len() <= viewers.darts(block.number.into())).ok_or(No(2))
+        })
+        .collect()
 }
 
 /// The number of an answer; what is served goes to `keep`.
@@ -95,53 +109,62 @@ pub fn answer_words(next: &NextMove) -> [u64; ANSWER] {
 }
 
 impl Core for Peer {
-    fn empty(&self, number: u64, block: &mut [u64]) -> u32 {
-        let answer = ask(1, block.len() == WORDS).and_then(|()| calls::empty(number));
+    fn empty(&self, site: Site, number: u64, block: &mut [u64]) -> u32 {
+        let answer = ask(1, block.len() == site.words()).and_then(|()| calls::empty(number));
         finish(answer, |after| image::put(&after, block))
     }
 
-    fn read_file(&self, file: &[u8], block: &mut [u64]) -> u32 {
-        let answer = ask(1, block.len() == WORDS).and_then(|()| calls::read_file(file));
+    fn read_file(&self, site: Site, file: &[u8], block: &mut [u64]) -> u32 {
+        let answer = ask(1, block.len() == site.words()).and_then(|()| calls::read_file(site.limits(), file));
         finish(answer, |after| image::put(&after, block))
     }
 
-    fn save_file(&self, block: &[u64], out: &mut [u8], written: &mut u64) -> u32 {
-        let answer = lent_block(block).and_then(|block| calls::save_file(&block, out.len()));
+    fn save_file(&self, site: Site, block: &[u64], out: &mut [u8], written: &mut u64) -> u32 {
+        let answer = lent_block(site, block).and_then(|block| calls::save_file(&block, out.len()));
         finish(answer, |bytes| put_bytes(&bytes, out, written))
     }
 
-    fn send(&self, block: &[u64], to: u64, serial: u64, outbox: &mut [u8], written: &mut u64) -> u32 {
-        let answer = lent_block(block).and_then(|block| calls::send(&block, to, serial, outbox.len()));
+    fn send(&self, site: Site, block: &[u64], to: u64, serial: u64, outbox: &mut [u8], written: &mut u64) -> u32 {
+        let limits = site.limits();
+        let answer = lent_block(site, block).and_then(|block| calls::send(limits, &block, to, serial, outbox.len()));
         finish(answer, |bytes| put_bytes(&bytes, outbox, written))
     }
 
-    fn receive(&self, block: &mut [u64], message: &[u8]) -> u32 {
-        let answer = lent_block(block).and_then(|block| calls::receive(&block, message));
+    fn receive(&self, site: Site, block: &mut [u64], message: &[u8]) -> u32 {
+        let answer = lent_block(site, block).and_then(|block| calls::receive(site.limits(), &block, message));
         finish(answer, |after| image::put(&after, block))
     }
 
-    fn release(&self, block: &mut [u64], to: u64, serial: u64) -> u32 {
-        let answer = lent_block(block).and_then(|block| calls::release(&block, to, serial));
+    fn release(&self, site: Site, block: &mut [u64], to: u64, serial: u64) -> u32 {
+        let answer = lent_block(site, block).and_then(|block| calls::release(site.limits(), &block, to, serial));
         finish(answer, |after| image::put(&after, block))
     }
 
-    fn redirect(&self, block: &mut [u64], message: &[u8]) -> u32 {
-        let answer = lent_block(block).and_then(|block| calls::redirect(&block, message));
+    fn redirect(&self, site: Site, block: &mut [u64], message: &[u8]) -> u32 {
+        let answer = lent_block(site, block).and_then(|block| calls::redirect(&block, message));
         finish(answer, |after| image::put(&after, block))
     }
 
-    fn check_mesh(&self, mesh: &[u64], scratch: &mut [u64]) -> u32 {
-        let answer = lent_mesh(mesh, scratch).and_then(|blocks| mesh::check(&blocks));
+    fn check_mesh(&self, mesh: &[u64], viewers: Viewers, scratch: &mut [u64]) -> u32 {
+        let answer = lent_mesh(mesh, viewers, scratch).and_then(|blocks| mesh::check(&blocks));
         finish(answer, |()| ())
     }
 
-    fn next_move(&self, mesh: &[u64], oracle: &OracleNumbers, scratch: &mut [u64], answer: &mut [u64]) -> u32 {
-        let served = ask(1, answer.len() == ANSWER).and_then(|()| lent_mesh(mesh, scratch)).and_then(|blocks| {
-            mesh::check(&blocks)?;
-            // Question 28: an unknown oracle is refused like a wrong one.
-            let oracle = oracle.oracle().filter(Oracle::is_right).ok_or(No(28))?;
-            Ok(balance::by_rule(&blocks, &oracle))
-        });
+    fn next_move(
+        &self,
+        mesh: &[u64],
+        viewers: Viewers,
+        oracle: &OracleNumbers,
+        scratch: &mut [u64],
+        answer: &mut [u64],
+    ) -> u32 {
+        let served =
+            ask(1, answer.len() == ANSWER).and_then(|()| lent_mesh(mesh, viewers, scratch)).and_then(|blocks| {
+                mesh::check(&blocks)?;
+                // Question 28: an unknown oracle is refused like a wrong one.
+                let oracle = oracle.oracle().filter(Oracle::is_right).ok_or(No(28))?;
+                Ok(balance::by_rule(&blocks, viewers, &oracle))
+            });
         finish(served, |next| answer.copy_from_slice(&answer_words(&next)))
     }
 }

@@ -3,17 +3,17 @@
 use crate::balance::{self, Choice};
 use crate::descent::Descent;
 use crate::file;
-use crate::generate::{self, Size};
+use crate::generate::{self, Mesh, Size};
 use crate::lent::{OracleNumbers, Peer};
 use crate::rng::Rng;
-use crate::rounds::digests;
+use crate::rounds::{digests, put_head};
 use crate::runs::Request;
 use crate::shapes::{self, Filling, Map};
 use crate::simulate::{BothRuns, Disagreement, Turn};
-use crate::value::{Block, Label, No, Point};
+use crate::value::{Block, Label, No, Point, Viewers};
 
-/// Meshes one after the other: the number of blocks, each block's file behind its length, the oracle, its axis, its six floats. The text
-/// has for each mesh the picked volumes of every block, the moves, how they end, the picked volumes then and a digest of every block.
+/// Meshes one after the other: the number of blocks, the viewers (four bytes), each block's file behind its length, the oracle, its axis,
+/// its six floats. The text has for each mesh the picked volumes of every block, the moves, how they end, the picked volumes then and a digest of every block.
 #[derive(Default)]
 pub struct Levelling {
     pub input: Vec<u8>,
@@ -21,10 +21,10 @@ pub struct Levelling {
 }
 
 /// Drawn meshes beside those by hand.
-const DRAWN: usize = 12;
+const DRAWN: usize = 11;
 
 /// Darts of a mesh that may be stored.
-const MAX_DARTS_STORED: usize = 400;
+const MAX_DARTS_STORED: usize = 180;
 
 const EVERY: OracleNumbers = OracleNumbers { oracle: 0, axis: 0, floats: [0; 6] };
 
@@ -89,6 +89,39 @@ fn repeated() -> Vec<Block> {
     blocks
 }
 
+/// Pillows of such sides in each block.
+fn mixed(sides: &[&[usize]]) -> Vec<Block> {
+    let mut map = Map::default();
+    let mut homes = Vec::new();
+    for (block, sides) in sides.iter().enumerate() {
+        for n in *sides {
+            shapes::pillow(&mut map, *n);
+            homes.push(block);
+        }
+    }
+    cut(&map, sides.len(), |volume| homes[volume])
+}
+
+/// Meshes with viewers, by hand. A volume of 33 sides has 66 darts.
+fn with_viewers() -> Vec<(Mesh, OracleNumbers)> {
+    let brick = shapes::grid([3, 2, 2], Filling::Hexahedra);
+    let of = |blocks: Vec<Block>, bits: u32| (Mesh { blocks, viewers: Viewers(bits) }, EVERY);
+    vec![
+        // Into a viewer the small ones alone go; then it is blocked.
+        of(mixed(&[&[33, 3, 33, 32, 33], &[]]), 0b10),
+        // Out of one too; what a viewer may not have goes to the next.
+        of(mixed(&[&[33, 3, 33, 3], &[]]), 0b01),
+        of(mixed(&[&[33, 33, 33, 33], &[], &[]]), 0xffff_fffa),
+        // Sewn cells into viewers, between them and out of them.
+        of(cut(&brick, 3, |_| 1), 0b101),
+        // Between viewers, the second with room for two and for one; bits of blocks that are not there.
+        of(mixed(&[&[3, 3, 3, 3, 3], &[122]]), 0xffff_ffff),
+        of(mixed(&[&[3, 3, 3, 3, 3], &[125]]), 0b11),
+        // 66 darts between blocks of the rack.
+        of(mixed(&[&[], &[33, 33, 33], &[3]]), 0b100),
+    ]
+}
+
 /// The meshes by hand, with their oracles.
 fn by_hand() -> Vec<(Vec<Block>, OracleNumbers)> {
     let hexahedra = shapes::grid([3, 3, 3], Filling::Hexahedra);
@@ -139,7 +172,7 @@ fn oracle(rng: &mut Rng, blocks: &[Block]) -> OracleNumbers {
 }
 
 /// Meshes that are drawn, of those that take some moves.
-fn drawn(seed: u64) -> Result<Vec<(Vec<Block>, OracleNumbers)>, Disagreement> {
+fn drawn(seed: u64) -> Result<Vec<(Mesh, OracleNumbers)>, Disagreement> {
     let mut found = Vec::new();
     let mut round = 0;
     while found.len() < DRAWN {
@@ -147,11 +180,11 @@ fn drawn(seed: u64) -> Result<Vec<(Vec<Block>, OracleNumbers)>, Disagreement> {
         let mut rng = Rng::new(seed.wrapping_mul(1_000_003).wrapping_add(round));
         let count = rng.between(2, 9);
         let size = if rng.one_in(2) { Size::Medium } else { Size::Small };
-        let blocks = generate::mesh_of(&mut rng, size, count);
-        let asked = oracle(&mut rng, &blocks);
-        let darts: usize = blocks.iter().map(|block| block.darts.len()).sum();
-        if darts <= MAX_DARTS_STORED && balanced(&blocks, &asked)?.matches("move").count() >= 2 {
-            found.push((blocks, asked));
+        let mesh = generate::mesh_of(&mut rng, size, count);
+        let asked = oracle(&mut rng, &mesh.blocks);
+        let darts: usize = mesh.blocks.iter().map(|block| block.darts.len()).sum();
+        if darts <= MAX_DARTS_STORED && balanced(&mesh, &asked)?.matches("move").count() >= 2 {
+            found.push((mesh, asked));
         }
     }
     Ok(found)
@@ -164,14 +197,15 @@ fn counts(blocks: &[Block], oracle: &OracleNumbers) -> String {
 }
 
 /// What the program prints for one mesh; its moves are held to the laws of the rule.
-fn balanced(blocks: &[Block], oracle: &OracleNumbers) -> Result<String, Disagreement> {
+fn balanced(mesh: &Mesh, oracle: &OracleNumbers) -> Result<String, Disagreement> {
+    let blocks = &mesh.blocks;
     let asked = oracle.oracle().ok_or("no oracle")?;
     let mut text = format!("blocks {}\n", blocks.len()) + &counts(blocks, oracle);
     let mut runs: Option<BothRuns> = None;
     let mut descent = Descent::start(balance::counts(blocks, &asked));
-    let mut now = blocks.to_vec();
+    let mut now = blocks.clone();
     loop {
-        match balance::next_move(&now, &asked).map(|next| next.choice) {
+        match balance::next_move(&now, mesh.viewers, &asked).map(|next| next.choice) {
             Err(No(number)) => {
                 text += &format!("refused {number}\n");
                 break;
@@ -189,7 +223,7 @@ fn balanced(blocks: &[Block], oracle: &OracleNumbers) -> Result<String, Disagree
             Ok(Choice::Move { donor, recipient, serial }) => {
                 text += &format!("move {donor} {recipient} {serial}\n");
                 let request = Request { from: donor.into(), to: recipient.into(), serial: serial.into() };
-                let both = runs.get_or_insert_with(|| BothRuns::start(blocks));
+                let both = runs.get_or_insert_with(|| BothRuns::start(mesh));
                 let answer = both.step(&Peer, Turn { request, order: 0 })?;
                 if answer != 0 {
                     return Err(format!("a next move is refused by {answer}"));
@@ -205,15 +239,16 @@ fn balanced(blocks: &[Block], oracle: &OracleNumbers) -> Result<String, Disagree
 
 pub fn levelling(seed: u64) -> Result<Levelling, Disagreement> {
     let mut made = Levelling::default();
-    for (blocks, oracle) in by_hand().into_iter().chain(drawn(seed)?) {
-        made.input.push(blocks.len() as u8);
-        for bytes in blocks.iter().map(file::encode) {
+    let of_the_rack = by_hand().into_iter().map(|(blocks, oracle)| (Mesh::of_the_rack(blocks), oracle));
+    for (mesh, oracle) in of_the_rack.chain(with_viewers()).chain(drawn(seed)?) {
+        put_head(&mut made.input, &mesh);
+        for bytes in mesh.blocks.iter().map(file::encode) {
             made.input.extend_from_slice(&(bytes.len() as u32).to_le_bytes());
             made.input.extend_from_slice(&bytes);
         }
         made.input.extend_from_slice(&[oracle.oracle as u8, oracle.axis as u8]);
         oracle.floats.iter().for_each(|float| made.input.extend_from_slice(&float.to_le_bytes()));
-        made.output += &balanced(&blocks, &oracle)?;
+        made.output += &balanced(&mesh, &oracle)?;
     }
     Ok(made)
 }

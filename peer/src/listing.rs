@@ -1,7 +1,7 @@
 //! The listing text of a block file.
 
 use crate::calls;
-use crate::value::{Block, No, Third};
+use crate::value::{Block, No, Third, RACK};
 use std::fmt::Write;
 
 /// Longest input the listing program reads.
@@ -12,7 +12,7 @@ pub fn listing(input: &[u8]) -> String {
     if input.len() > MAX_INPUT {
         return "too long\n".to_string();
     }
-    match calls::read_file(input) {
+    match calls::read_file(RACK, input) {
         Ok(block) => lines(&block),
         Err(No(number)) => format!("refused {number}\n"),
     }

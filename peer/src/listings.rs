@@ -6,7 +6,7 @@ use crate::file;
 use crate::listing;
 use crate::message;
 use crate::shapes::{self, Map};
-use crate::value::{Block, Label, Point, Third};
+use crate::value::{Block, Label, Point, Third, RACK};
 
 /// Files behind their lengths, and the text: a line with each file's number, then what is printed for it.
 pub struct Listings {
@@ -31,10 +31,10 @@ fn p() -> Block {
 
 /// Both blocks after the volume of a dart went from the first to the second.
 fn round(from: &Block, to: &Block, serial: u64) -> Option<(Block, Block)> {
-    let outbox = calls::send(from, u64::from(to.number), serial, usize::MAX).ok()?;
+    let outbox = calls::send(RACK, from, u64::from(to.number), serial, usize::MAX).ok()?;
     let transfer = *message::split(&outbox)?.first()?;
-    let taken = calls::receive(to, transfer).ok()?;
-    Some((calls::release(from, u64::from(to.number), serial).ok()?, taken))
+    let taken = calls::receive(RACK, to, transfer).ok()?;
+    Some((calls::release(RACK, from, u64::from(to.number), serial).ok()?, taken))
 }
 
 /// P with its first dart changed.

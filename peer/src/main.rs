@@ -115,6 +115,11 @@ fn run_simulation(seed: u64, count: usize) -> Result<(), String> {
                     number => println!("refused by {number:2} {times}"),
                 }
             }
+            for (way, [served, refused]) in
+                ["into a viewer", "out of a viewer", "viewer to viewer"].iter().zip(tally.with_viewers)
+            {
+                println!("{way:16} {served} served, {refused} refused");
+            }
             Ok(())
         }
         Err(failure) => Err(describe(&failure)),
@@ -124,7 +129,7 @@ fn run_simulation(seed: u64, count: usize) -> Result<(), String> {
 /// The plain version against the value version.
 fn run_comparison(seed: u64, count: usize) -> Result<(), String> {
     for ((call, answer), times) in compare::compare(&Plain, &Peer, &CALLS, seed, count)? {
-        println!("{call:10} {answer:2} {times}");
+        println!("{call:16} {answer:2} {times}");
     }
     Ok(())
 }
@@ -135,7 +140,8 @@ fn describe(failure: &Failure) -> String {
         let request = turn.request;
         text += &format!("move {} from {} to {} (order {})\n", request.serial, request.from, request.to, turn.order);
     }
-    for block in &failure.blocks {
+    text += &format!("viewers {:#b}\n", failure.mesh.viewers.0);
+    for block in &failure.mesh.blocks {
         text += &listing::lines(block);
     }
     text

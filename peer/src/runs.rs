@@ -2,7 +2,7 @@
 
 use crate::cells;
 use crate::mesh::{whole_map, WholeMap};
-use crate::value::{ask, Answer, Block, Links, No, MAX_CELL, MAX_DARTS};
+use crate::value::{ask, Answer, Block, Links, No, Site, Viewers, MAX_CELL, VIEWER_CELL};
 use std::collections::{BTreeMap, BTreeSet};
 
 /// A request to move the cell of a serial from block i to block j.
@@ -21,10 +21,11 @@ pub struct Undivided {
     /// The cell of each dart, by its place in `cells`.
     cell_of: BTreeMap<u32, usize>,
     counts: Vec<u64>,
+    pub viewers: Viewers,
 }
 
 impl Undivided {
-    pub fn start(blocks: &[Block]) -> Undivided {
+    pub fn start(blocks: &[Block], viewers: Viewers) -> Undivided {
         let mut cells = Vec::new();
         let mut cell_of = BTreeMap::new();
         for block in blocks {
@@ -34,7 +35,7 @@ impl Undivided {
             }
         }
         let counts = blocks.iter().map(|block| u64::from(block.counter)).collect();
-        Undivided { map: whole_map(blocks), cells, cell_of, counts }
+        Undivided { map: whole_map(blocks), cells, cell_of, counts, viewers }
     }
 
     /// The darts of the cells with a block number.
@@ -42,25 +43,54 @@ impl Undivided {
         self.cells.iter().filter(|(_, n)| *n == number).flat_map(|(cell, _)| cell.iter().copied()).collect()
     }
 
-    /// One request; a refused one changes nothing.
-    pub fn step(&mut self, request: Request) -> Answer<()> {
+    /// Questions 9 and 10: the place of the cell in `cells`.
+    fn place(&self, request: Request) -> Answer<usize> {
         let Request { from, to, serial } = request;
         ask(9, to != from)?;
         let serial = u32::try_from(serial).map_err(|_| No(10))?;
         let place = *self.cell_of.get(&serial).ok_or(No(10))?;
         ask(10, self.cells[place].1 == from)?;
+        Ok(place)
+    }
+
+    /// Questions 12 to 14: how much the count of the block grows.
+    fn gain(&self, place: usize, from: u32) -> Answer<u64> {
         let cell = &self.cells[place].0;
-        ask(11, cell.len() <= MAX_CELL)?;
         let third_cells = || cell.iter().filter_map(|dart| Some(self.cell_of[&self.map.darts[dart].third?]));
         ask(12, third_cells().all(|other| other != place))?;
         ask(13, self.pairs_once(cell))?;
         let gained = self.faces_towards(place, from);
         ask(14, self.counts[from as usize] + gained <= u64::from(u32::MAX))?;
+        Ok(gained)
+    }
+
+    /// One request; a refused one changes nothing. 11 reads 64 for a round into or out of a viewer, 21 reads 256 into it.
+    pub fn step(&mut self, request: Request) -> Answer<()> {
+        let Request { from, to, .. } = request;
+        let place = self.place(request)?;
+        let darts = self.cells[place].0.len();
+        ask(11, darts <= self.viewers.cell(from as usize, to as usize))?;
+        let gained = self.gain(place, from)?;
         let held: usize = self.cells.iter().filter(|(_, n)| *n == to).map(|(darts, _)| darts.len()).sum();
-        ask(21, held + cell.len() <= MAX_DARTS)?;
+        ask(21, held + darts <= self.viewers.darts(to as usize))?;
         self.cells[place].1 = to;
         self.counts[from as usize] += gained;
         Ok(())
+    }
+
+    /// The number by which the divided run refuses a request that this run refuses by another: from the rack into a viewer a
+    /// cell of 65 to 512 darts is refused by 11 here; there the sender finds it small enough and says the first of 12 to 14 that
+    /// applies, else the viewer says 29.
+    pub fn other_number(&self, request: Request) -> Option<u32> {
+        let Request { from, to, .. } = request;
+        let place = self.place(request).ok()?;
+        let large = (VIEWER_CELL + 1..=MAX_CELL).contains(&self.cells[place].0.len());
+        let ends = [from, to].map(|number| self.viewers.site(number as usize));
+        let into_viewer = ends == [Site::Rack, Site::Viewer];
+        (large && into_viewer).then(|| match self.gain(place, from) {
+            Ok(_) => 29,
+            Err(No(number)) => number,
+        })
     }
 
     /// Question 13 of a cell, with the least dart of a ring as the vertex.

@@ -4,7 +4,7 @@ use crate::generate::{assemble, label_crossings};
 use crate::image;
 use crate::rng::Rng;
 use crate::shapes::{self, Filling, Map};
-use crate::value::{Block, Label, Third};
+use crate::value::{Block, Label, Site, Third};
 use std::collections::BTreeSet;
 
 /// A map with homes, and nearly full blocks made of it.
@@ -64,14 +64,15 @@ impl Scene {
     }
 }
 
-/// A cell in block 0 whose faces lead to blocks 0, 1, 2 or nowhere in turn; blocks of about so many darts.
-fn scene(large: bool, goal: usize) -> (Scene, usize) {
+/// A cell in block 0, of 24 darts or of as many as may move, whose faces lead to blocks 0, 1, 2 or nowhere in turn; blocks of about so
+/// many darts.
+fn scene(site: Site, large: bool, goal: usize) -> (Scene, usize) {
     let mut scene = Scene { map: Map::default(), home: Vec::new() };
-    if large {
-        shapes::torus(&mut scene.map, 8, 16);
-    } else {
-        shapes::prism(&mut scene.map, 4);
-    }
+    match (large, site) {
+        (false, _) => shapes::prism(&mut scene.map, 4),
+        (true, Site::Rack) => shapes::torus(&mut scene.map, 8, 16),
+        (true, Site::Viewer) => shapes::torus(&mut scene.map, 4, 4),
+    };
     let darts = scene.map.len();
     scene.settle(0);
     for (turn, face) in scene.map.face_starts().into_iter().enumerate() {
@@ -82,7 +83,9 @@ fn scene(large: bool, goal: usize) -> (Scene, usize) {
         }
     }
     scene.fill(0, goal);
-    scene.fill(1, goal + 10 - darts);
+    // A viewer has no room to spare.
+    let spare = if site == Site::Rack { 10 } else { 0 };
+    scene.fill(1, goal + spare - darts);
     scene.fill(2, goal);
     (scene, darts)
 }
@@ -115,15 +118,17 @@ pub fn critical(mut block: Block, wanted: usize, label: impl Fn(u32) -> u32) -> 
     block
 }
 
-/// Nearly full blocks 0, 1 and 2, and a volume of block 0 that goes to block 1.
+/// Nearly full blocks 0, 1 and 2 of one site, and a volume of block 0 that goes to block 1.
 pub struct Round {
+    pub site: Site,
     pub images: Vec<Vec<u64>>,
     pub serial: u64,
 }
 
-/// A volume of 24 darts or of 512, in blocks of about so many; serials shuffled by a seed, or those of neighbours side by side.
-pub fn round(large: bool, seed: Option<u64>, goal: usize) -> Round {
-    let (scene, darts) = scene(large, goal);
+/// A volume of 24 darts or of as many as may move, 512 or 64, in blocks of about so many; serials shuffled by a seed, or those of
+/// neighbours side by side.
+pub fn round(site: Site, large: bool, seed: Option<u64>, goal: usize) -> Round {
+    let (scene, darts) = scene(site, large, goal);
     let blocks = scene.blocks(3, seed);
     let serial = u64::from(
         *crate::cells::volumes(&blocks[0], blocks[0].darts.keys().copied())
@@ -132,7 +137,7 @@ pub fn round(large: bool, seed: Option<u64>, goal: usize) -> Round {
             .and_then(|cell| cell.first())
             .unwrap_or(&0),
     );
-    Round { images: blocks.iter().map(image::encode).collect(), serial }
+    Round { site, images: blocks.iter().map(|block| image::encode_at(site, block)).collect(), serial }
 }
 
 /// Sixteen slabs of so many hexahedra, each a block; serials shuffled by a seed, or side by side.

@@ -2,13 +2,13 @@
 //!
 //! Each function may assume the ones before it in the paper's order.
 
-use crate::value::{Block, Label, Third, MAX_BLOCKS, MAX_DARTS, MAX_POSITION};
+use crate::value::{Block, Label, Limits, Third, MAX_BLOCKS, MAX_POSITION};
 use std::collections::BTreeSet;
 
 /// What the layout of a file bounds already (question 3).
-pub fn within_limits(block: &Block) -> bool {
+pub fn within_limits(block: &Block, limits: Limits) -> bool {
     usize::from(block.number) < MAX_BLOCKS
-        && block.darts.len() <= MAX_DARTS
+        && block.darts.len() <= limits.darts
         && !block.darts.contains_key(&0)
         && block.darts.values().all(|dart| match dart.third {
             Third::Critical { other, label } => {
@@ -77,8 +77,8 @@ pub fn points_agree(block: &Block) -> bool {
 }
 
 /// A sound block: all of the above, in the paper's order.
-pub fn is_sound(block: &Block) -> bool {
-    within_limits(block)
+pub fn is_sound(block: &Block, limits: Limits) -> bool {
+    within_limits(block, limits)
         && coordinates_finite(block)
         && next_and_opposite_right(block)
         && thirds_right(block)

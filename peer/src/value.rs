@@ -4,14 +4,71 @@
 
 use std::collections::BTreeMap;
 
-/// Most darts a block may hold.
+/// Most darts a block may hold, on the rack.
 pub const MAX_DARTS: usize = 4096;
-/// Most darts a volume that moves may have.
+/// Most darts a volume that moves may have, on the rack; and most darts of any transfer.
 pub const MAX_CELL: usize = 512;
+/// Most darts a viewer's block may hold.
+pub const VIEWER_DARTS: usize = 256;
+/// Most darts a volume may have that moves into or out of a viewer.
+pub const VIEWER_CELL: usize = 64;
 /// Most blocks in a mesh; block numbers are 0 to 15.
 pub const MAX_BLOCKS: usize = 16;
 /// Greatest position in a label.
 pub const MAX_POSITION: u16 = 4095;
+
+/// Who keeps a block: a node of the rack, or the harbour office's viewer.
+#[derive(Clone, Copy, PartialEq, Eq, PartialOrd, Ord, Debug)]
+pub enum Site {
+    Rack,
+    Viewer,
+}
+
+/// What a site can hold: darts of a block, and of a volume that moves.
+#[derive(Clone, Copy, PartialEq, Eq, Debug)]
+pub struct Limits {
+    pub darts: usize,
+    pub cell: usize,
+}
+
+pub const RACK: Limits = Limits { darts: MAX_DARTS, cell: MAX_CELL };
+pub const VIEWER: Limits = Limits { darts: VIEWER_DARTS, cell: VIEWER_CELL };
+
+impl Site {
+    pub fn limits(self) -> Limits {
+        match self {
+            Site::Rack => RACK,
+            Site::Viewer => VIEWER,
+        }
+    }
+}
+
+/// Which blocks of a mesh are viewers': bit b says so of the block numbered b. Bits from 16 on are not looked at.
+#[derive(Clone, Copy, PartialEq, Eq, Debug, Default)]
+pub struct Viewers(pub u32);
+
+impl Viewers {
+    pub const NONE: Viewers = Viewers(0);
+
+    /// Who keeps the block of this number.
+    pub fn site(self, number: usize) -> Site {
+        if number < MAX_BLOCKS && self.0 >> number & 1 == 1 {
+            Site::Viewer
+        } else {
+            Site::Rack
+        }
+    }
+
+    /// Most darts of a volume that goes from one block to another: what both ends can hold.
+    pub fn cell(self, from: usize, to: usize) -> usize {
+        self.site(from).limits().cell.min(self.site(to).limits().cell)
+    }
+
+    /// Most darts of a block.
+    pub fn darts(self, number: usize) -> usize {
+        self.site(number).limits().darts
+    }
+}
 
 /// The number of the first question answered no.
 #[derive(Clone, Copy, PartialEq, Eq, PartialOrd, Ord, Hash, Debug)]

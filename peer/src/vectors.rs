@@ -6,15 +6,22 @@ use crate::damage::{self, requests};
 use crate::file;
 use crate::generate::{self, Size};
 use crate::image::{self, ANSWER};
-use crate::lent::Peer;
+use crate::lent::{OracleNumbers, Peer};
+use crate::message::{self, Index, Message, Transfer};
 use crate::rng::Rng;
-use crate::value::{Block, Point};
+use crate::shapes::{self, Map};
+use crate::value::{Block, Point, Site, Viewers, RACK};
 use std::cmp::Ordering::{self, Equal, Greater, Less};
 use std::collections::{BTreeMap, BTreeSet};
 use std::path::Path;
 
-/// Longest record of a case that is not about a limit.
-const MAX_RECORD: usize = 2048;
+/// Longest record of a case that is not about a limit; a mesh takes more than a block.
+fn max_record(call: Call) -> usize {
+    match call {
+        Call::CheckMesh | Call::NextMove => 2048,
+        _ => 1024,
+    }
+}
 
 fn put_u32(out: &mut Vec<u8>, number: usize) {
     out.extend_from_slice(&(number as u32).to_le_bytes());
@@ -83,12 +90,12 @@ pub fn record(case: &Case) -> (u32, Vec<u8>) {
     put_u32(&mut out, answer as usize);
     let served = |written: u64| if answer == 0 { written as usize } else { 0 };
     match (case, &after) {
-        (Case::Empty { number, block }, Case::Empty { block: end, .. }) => {
+        (Case::Empty { number, block, .. }, Case::Empty { block: end, .. }) => {
             put_u64(&mut out, *number);
             put_memory(&mut out, block);
             put_change(&mut out, block, end);
         }
-        (Case::ReadFile { file, block }, Case::ReadFile { block: end, .. }) => {
+        (Case::ReadFile { file, block, .. }, Case::ReadFile { block: end, .. }) => {
             put_bytes(&mut out, file);
             put_memory(&mut out, block);
             put_change(&mut out, block, end);
@@ -103,23 +110,25 @@ pub fn record(case: &Case) -> (u32, Vec<u8>) {
             put_memory(&mut out, block);
             put_room(&mut out, outbox, end, served(*written));
         }
-        (Case::Receive { block, message }, Case::Receive { block: end, .. })
-        | (Case::Redirect { block, message }, Case::Redirect { block: end, .. }) => {
+        (Case::Receive { block, message, .. }, Case::Receive { block: end, .. })
+        | (Case::Redirect { block, message, .. }, Case::Redirect { block: end, .. }) => {
             put_bytes(&mut out, message);
             put_memory(&mut out, block);
             put_change(&mut out, block, end);
         }
-        (Case::Release { block, to, serial }, Case::Release { block: end, .. }) => {
+        (Case::Release { block, to, serial, .. }, Case::Release { block: end, .. }) => {
             put_u64(&mut out, *to);
             put_u64(&mut out, *serial);
             put_memory(&mut out, block);
             put_change(&mut out, block, end);
         }
-        (Case::CheckMesh { mesh, scratch }, _) => {
+        (Case::CheckMesh { mesh, viewers, scratch }, _) => {
+            put_u32(&mut out, viewers.0 as usize);
             put_memory(&mut out, mesh);
             put_memory(&mut out, scratch);
         }
-        (Case::NextMove { mesh, oracle, scratch, answer: room }, Case::NextMove { answer: end, .. }) => {
+        (Case::NextMove { mesh, viewers, oracle, scratch, answer: room }, Case::NextMove { answer: end, .. }) => {
+            put_u32(&mut out, viewers.0 as usize);
             put_u32(&mut out, oracle.oracle as usize);
             put_u32(&mut out, oracle.axis as usize);
             for float in oracle.floats {
@@ -172,10 +181,10 @@ pub fn sort(call: Call, record: &[u8]) -> Sort {
     match (call, u32_at(record, 0)) {
         (Call::NextMove, 0) => sort_of_served(record),
         (Call::NextMove, 28) => {
-            let oracle = u32_at(record, 4).min(3);
+            let oracle = u32_at(record, 8).min(3);
             // A box has six floats, a plane one.
             let floats = [0, 6, 1, 0][oracle as usize];
-            let nan = record[12..].chunks_exact(8).take(floats).any(|float| f64::from_bits(u64_at(float, 0)).is_nan());
+            let nan = record[16..].chunks_exact(8).take(floats).any(|float| f64::from_bits(u64_at(float, 0)).is_nan());
             Sort::WrongOracle { oracle, nan }
         }
         (_, answer) => Sort::Answer(answer),
@@ -184,7 +193,7 @@ pub fn sort(call: Call, record: &[u8]) -> Sort {
 
 /// The sort of a next move that was served.
 fn sort_of_served(record: &[u8]) -> Sort {
-    let (oracle, blocks) = (u32_at(record, 4), u32_at(record, 60) as usize / image::WORDS);
+    let (oracle, blocks) = (u32_at(record, 8), u32_at(record, 64) as usize / image::WORDS);
     let word = |place: usize| u64_at(record, record.len() - 8 * (ANSWER - place));
     let surplus = |block: usize| word(5 + block) as i64;
     match (oracle, word(0)) {
@@ -231,12 +240,13 @@ pub fn sorts(call: Call) -> Vec<Sort> {
 /// Records by sort and way.
 type Shelf = BTreeMap<Sort, BTreeMap<&'static str, Vec<Vec<u8>>>>;
 
-/// Draws cases of a call until every sort has some and there are enough in all.
-fn shelf(seed: u64, call: Call, wanted: usize) -> Shelf {
+/// Draws cases of a call until every sort has some, those apart that the cases about limits have, and there are enough in all.
+fn shelf(seed: u64, call: Call, wanted: usize, limits: &[Vec<u8>]) -> Shelf {
     let mut shelf = Shelf::new();
     let mut taken = BTreeSet::new();
+    let at_limits: BTreeSet<Sort> = limits.iter().map(|bytes| sort(call, bytes)).collect();
     for round in 0..400 {
-        let complete = sorts(call).iter().all(|sort| shelf.contains_key(sort));
+        let complete = sorts(call).iter().all(|sort| shelf.contains_key(sort) || at_limits.contains(sort));
         if round >= 12 && complete && taken.len() >= 2 * wanted {
             break;
         }
@@ -246,7 +256,7 @@ fn shelf(seed: u64, call: Call, wanted: usize) -> Shelf {
         let mesh = generate::mesh_of(&mut rng, size, count);
         for (way, case) in damage::batch(&mut rng, call, &mesh) {
             let (_, bytes) = record(&case);
-            if bytes.len() <= MAX_RECORD && taken.insert(bytes.clone()) {
+            if bytes.len() <= max_record(call) && taken.insert(bytes.clone()) {
                 shelf.entry(sort(call, &bytes)).or_default().entry(way).or_default().push(bytes);
             }
         }
@@ -283,17 +293,131 @@ fn choose(shelf: Shelf, wanted: usize) -> Vec<Vec<u8>> {
     chosen
 }
 
+/// A pillow of two n-gons as a block; points at zero keep the records short.
+fn pillow(n: usize, number: u8) -> Block {
+    flat(requests::pillow_block(n, number))
+}
+
+fn flat(mut block: Block) -> Block {
+    block.darts.values_mut().for_each(|dart| dart.point = Point::default());
+    block
+}
+
+/// The same with serials from `first` on.
+fn from_serial(first: u32, mut block: Block) -> Block {
+    let shift = first - 1;
+    block.darts = block
+        .darts
+        .into_iter()
+        .map(|(serial, mut dart)| {
+            dart.next += shift;
+            dart.opposite += shift;
+            (serial + shift, dart)
+        })
+        .collect();
+    block
+}
+
+/// Blocks of pillows, each given by its sides; serials in the order given.
+fn piles(sides: &[&[usize]]) -> Vec<Block> {
+    let mut serial = 1;
+    let mut blocks: Vec<Block> = (0..sides.len()).map(|number| Block::empty(number as u8)).collect();
+    for (block, sides) in blocks.iter_mut().zip(sides) {
+        for n in *sides {
+            block.darts.extend(from_serial(serial, pillow(*n, 0)).darts);
+            serial += 2 * *n as u32;
+        }
+    }
+    blocks
+}
+
 /// The few cases about limits, whose records may be long.
-fn limits(call: Call) -> Vec<Case> {
-    const FILL: u8 = 0x3c;
-    // Points at zero keep the records short.
-    let pillow = |n: usize| {
-        let mut block = requests::pillow_block(n, 2);
-        block.darts.values_mut().for_each(|dart| dart.point = Point::default());
-        block
-    };
-    let full = pillow(2048);
-    let room = |length: usize| vec![FILL; length];
+pub fn limits(call: Call) -> Vec<Case> {
+    match call {
+        Call::CheckMesh => mesh_limits()
+            .into_iter()
+            .map(|(blocks, bits)| {
+                let mesh = blocks.iter().flat_map(image::encode).collect();
+                Case::CheckMesh { mesh, viewers: Viewers(bits), scratch: vec![0; image::SCRATCH] }
+            })
+            .collect(),
+        Call::NextMove => next_move_limits()
+            .into_iter()
+            .map(|(blocks, bits)| {
+                let mesh = blocks.iter().flat_map(image::encode).collect();
+                let oracle = OracleNumbers { oracle: 0, axis: 0, floats: [0; 6] };
+                let (scratch, answer) = (vec![0; image::SCRATCH], vec![0; ANSWER]);
+                Case::NextMove { mesh, viewers: Viewers(bits), oracle, scratch, answer }
+            })
+            .collect(),
+        _ => match call.site() {
+            Site::Rack => rack_limits(call),
+            Site::Viewer => viewer_limits(call.on_the_rack()),
+        },
+    }
+}
+
+/// A viewer's 256 darts in a mesh, and which bit tells of a block.
+fn mesh_limits() -> Vec<(Vec<Block>, u32)> {
+    let of = |n: usize| vec![Block::empty(0), pillow(n, 1)];
+    let alone = |n: usize| vec![pillow(n, 1)];
+    vec![
+        (of(128), 0b10),
+        (of(129), 0b10),
+        (of(129), 0b01),
+        // Bits 16 to 31, and those of blocks that are not there.
+        (of(129), 0xffff_fffd),
+        // Numbered 1 in place 0: the number tells, so 2 comes before 23.
+        (alone(129), 0b10),
+        (alone(129), 0b01),
+    ]
+}
+
+/// Volumes about 64 darts and a viewer's room, by who gives and who takes.
+fn next_move_limits() -> Vec<(Vec<Block>, u32)> {
+    vec![
+        // 66 darts do not go into a viewer or out of it; the next volume does, or none.
+        (piles(&[&[33, 3], &[]]), 0b10),
+        (piles(&[&[33, 3], &[]]), 0b01),
+        (piles(&[&[33, 33], &[]]), 0b10),
+        (piles(&[&[33, 33], &[]]), 0b01),
+        (piles(&[&[33, 33], &[]]), 0b11),
+        // Between blocks of the rack they do, whatever the other bits.
+        (piles(&[&[33, 33], &[]]), 0xffff_fffc),
+        (piles(&[&[33, 33], &[], &[]]), 0b100),
+        // The next recipient is the rack's.
+        (piles(&[&[33, 33], &[], &[]]), 0b010),
+        // 64 darts go.
+        (piles(&[&[32, 33], &[]]), 0b10),
+        (piles(&[&[32, 33], &[]]), 0b01),
+        (piles(&[&[32, 33], &[]]), 0b11),
+        // Room for six darts, and for four; at the rack there is more.
+        (piles(&[&[3, 3, 3], &[125]]), 0b10),
+        (piles(&[&[3, 3, 3], &[126]]), 0b10),
+        (piles(&[&[3, 3, 3], &[126], &[]]), 0b010),
+        (piles(&[&[3, 3, 3], &[127]]), 0xffff_fffd),
+        // A full viewer gives.
+        (piles(&[&[119, 3, 3, 3], &[]]), 0b01),
+        // 258 darts.
+        (piles(&[&[129], &[]]), 0b01),
+    ]
+}
+
+const FILL: u8 = 0x3c;
+
+fn room(length: usize) -> Vec<u8> {
+    vec![FILL; length]
+}
+
+/// The transfer of the whole of a block's one volume.
+fn transfer(block: &Block, to: u8) -> Vec<u8> {
+    let serial = block.darts.keys().next().map_or(0, |serial| u64::from(*serial));
+    calls::send(RACK, block, u64::from(to), serial, usize::MAX).unwrap_or_default()
+}
+
+fn rack_limits(call: Call) -> Vec<Case> {
+    let site = Site::Rack;
+    let full = pillow(2048, 2);
     match call {
         Call::ReadFile => {
             let mut odd = full.clone();
@@ -302,44 +426,37 @@ fn limits(call: Call) -> Vec<Case> {
             }
             [&full, &odd]
                 .into_iter()
-                .map(|block| Case::ReadFile { file: file::encode(block), block: image::encode(&Block::empty(9)) })
+                .map(|block| Case::ReadFile { site, file: file::encode(block), block: image::encode(&Block::empty(9)) })
                 .collect()
         }
         Call::SaveFile => {
             let length = file::encode(&full).len();
-            vec![Case::SaveFile { block: image::encode(&full), out: room(length), written: 0 }]
+            vec![Case::SaveFile { site, block: image::encode(&full), out: room(length), written: 0 }]
         }
-        Call::Send => [256, 257]
-            .into_iter()
-            .map(|n| {
-                let block = image::encode(&pillow(n));
-                Case::Send { block, to: 5, serial: n as u64, outbox: room(16_000), written: 0 }
+        // 66 darts go from the rack, whoever gets them.
+        Call::Send => [pillow(33, 2), torus(2), pillow(257, 2)]
+            .iter()
+            .map(|block| {
+                let (block, outbox) = (image::encode(block), room(16_000));
+                Case::Send { site, block, to: 5, serial: 33, outbox, written: 0 }
             })
             .collect(),
-        Call::Release => [256, 257]
-            .into_iter()
-            .map(|n| Case::Release { block: image::encode(&pillow(n)), to: 5, serial: n as u64 })
+        Call::Release => [pillow(33, 2), torus(2), pillow(257, 2)]
+            .iter()
+            .map(|block| Case::Release { site, block: image::encode(block), to: 5, serial: 33 })
             .collect(),
         Call::Receive => {
-            let mut cell = requests::pillow_block(4, 0);
-            cell.darts = cell
-                .darts
-                .into_iter()
-                .map(|(serial, mut dart)| {
-                    dart.next += 9000;
-                    dart.opposite += 9000;
-                    (serial + 9000, dart)
-                })
-                .collect();
-            let message = calls::send(&cell, 2, 9001, usize::MAX).unwrap_or_default();
-            let big = calls::send(&requests::pillow_block(256, 0), 2, 1, usize::MAX).unwrap_or_default();
+            let message = transfer(&from_serial(9001, requests::pillow_block(4, 0)), 2);
+            let big = transfer(&torus(0), 2);
             let mut cases: Vec<Case> = [2044, 2045]
                 .into_iter()
-                .map(|n| Case::Receive { block: image::encode(&pillow(n)), message: message.clone() })
+                .map(|n| Case::Receive { site, block: image::encode(&pillow(n, 2)), message: message.clone() })
                 .collect();
-            cases.push(Case::Receive { block: image::encode(&Block::empty(2)), message: big.clone() });
+            let empty = || image::encode(&Block::empty(2));
+            cases.push(Case::Receive { site, block: empty(), message: transfer(&pillow(33, 0), 2) });
+            cases.push(Case::Receive { site, block: empty(), message: big.clone() });
             if let Some(over) = with_513_darts(&big) {
-                cases.push(Case::Receive { block: image::encode(&Block::empty(2)), message: over });
+                cases.push(Case::Receive { site, block: empty(), message: over });
             }
             cases
         }
@@ -347,12 +464,101 @@ fn limits(call: Call) -> Vec<Case> {
     }
 }
 
+/// Cases about a viewer's 256 and 64, and the 512 of any transfer.
+fn viewer_limits(call: Call) -> Vec<Case> {
+    let site = Site::Viewer;
+    let image = |block: &Block| image::encode_at(site, block);
+    let empty = || image(&Block::empty(2));
+    match call {
+        Call::ReadFile => {
+            let mut odd = pillow(128, 2);
+            if let Some(lone) = odd.darts.get(&1).copied() {
+                odd.darts.insert(5000, lone);
+            }
+            [pillow(128, 2), pillow(129, 2), odd]
+                .iter()
+                .map(|block| Case::ReadFile { site, file: file::encode(block), block: image(&Block::empty(9)) })
+                .collect()
+        }
+        // An image that says 258 darts is none.
+        Call::SaveFile => [pillow(128, 2), pillow(129, 2)]
+            .iter()
+            .map(|block| {
+                let length = file::encode(block).len();
+                Case::SaveFile { site, block: image(block), out: room(length), written: 0 }
+            })
+            .collect(),
+        Call::Send => [32, 33]
+            .into_iter()
+            .map(|n| {
+                let block = image(&pillow(n, 2));
+                Case::Send { site, block, to: 5, serial: n as u64, outbox: room(4_000), written: 0 }
+            })
+            .collect(),
+        Call::Release => [32, 33]
+            .into_iter()
+            .map(|n| Case::Release { site, block: image(&pillow(n, 2)), to: 5, serial: n as u64 })
+            .collect(),
+        Call::Receive => viewer_receives(),
+        Call::Redirect => {
+            let big = transfer(&torus(0), 2);
+            let mut messages = vec![transfer(&pillow(33, 0), 2), big.clone()];
+            messages.extend(with_513_darts(&big));
+            messages.into_iter().map(|message| Case::Redirect { site, block: empty(), message }).collect()
+        }
+        _ => Vec::new(),
+    }
+}
+
+/// A cell of 512 darts with few vertices.
+fn torus(number: u8) -> Block {
+    let mut map = Map::default();
+    shapes::torus(&mut map, 8, 16);
+    flat(requests::block_of(&map, number))
+}
+
+fn viewer_receives() -> Vec<Case> {
+    let site = Site::Viewer;
+    let big = transfer(&torus(0), 2);
+    let over = |change: fn(&mut Transfer)| altered(&transfer(&pillow(33, 0), 2), change);
+    let mut messages: Vec<Vec<u8>> = [32, 33].iter().map(|n| transfer(&pillow(*n, 0), 2)).collect();
+    messages.push(big.clone());
+    messages.extend(with_513_darts(&big));
+    // 65 darts, which are no volume's.
+    messages.extend(altered(&transfer(&pillow(32, 0), 2), |t| t.faces[1].push((0, 9000))));
+    // 17 comes before 29: to another block, from the receiver.
+    messages.push(transfer(&pillow(33, 0), 3));
+    messages.extend(over(|t| t.from = t.to));
+    // 29 comes before 18, 19 and 20.
+    messages.extend(over(|t| t.faces[0][0].1 = 0));
+    messages.extend(over(|t| t.points[0].0[0] = f64::NAN.to_bits()));
+    messages.extend(over(|t| t.faces[0].rotate_left(1)));
+    messages.extend(over(|t| t.part3.push((0, Index(1)))));
+    let empty = image::encode_at(site, &Block::empty(2));
+    let mut cases: Vec<Case> =
+        messages.into_iter().map(|message| Case::Receive { site, block: empty.clone(), message }).collect();
+    // 256 darts afterwards, and 258; 29 comes before 21; 258 at the start.
+    for (held, sides) in [(125, 3), (126, 3), (97, 32), (126, 33), (129, 3)] {
+        let message = transfer(&from_serial(9001, pillow(sides, 0)), 2);
+        cases.push(Case::Receive { site, block: image::encode_at(site, &pillow(held, 2)), message });
+    }
+    cases
+}
+
+/// A transfer with one thing altered.
+fn altered(bytes: &[u8], change: impl Fn(&mut Transfer)) -> Option<Vec<u8>> {
+    let Message::Transfer(mut transfer) = message::decode(bytes)? else { return None };
+    change(&mut transfer);
+    Some(message::encode(&Message::Transfer(transfer)))
+}
+
 /// A transfer of 512 darts with one more.
 fn with_513_darts(bytes: &[u8]) -> Option<Vec<u8>> {
-    use crate::message::{decode, encode, Message};
-    let Message::Transfer(mut transfer) = decode(bytes)? else { return None };
-    transfer.faces.last_mut()?.push((0, 9000));
-    Some(encode(&Message::Transfer(transfer)))
+    altered(bytes, |transfer| {
+        if let Some(face) = transfer.faces.last_mut() {
+            face.push((0, 9000));
+        }
+    })
 }
 
 /// The records of a call: N drawn cases, and those about limits.
@@ -362,17 +568,23 @@ struct Records {
 }
 
 impl Records {
-    /// Of those about limits the ones whose answer no drawn case has, or the others.
-    fn limits(&self, needed: bool) -> impl Iterator<Item = &Vec<u8>> {
-        self.limits.iter().filter(move |limit| needed != self.drawn.iter().any(|drawn| drawn[..4] == limit[..4]))
+    /// Of those about limits the ones that have to be played, or the others: what is about a viewer, and what has an answer that
+    /// no drawn case has.
+    fn limits(&self, call: Call, needed: bool) -> impl Iterator<Item = &Vec<u8>> {
+        let about_viewers = call >= Call::CheckMesh;
+        let is_new = |limit: &Vec<u8>| !self.drawn.iter().any(|drawn| drawn[..4] == limit[..4]);
+        self.limits.iter().filter(move |limit| needed == (about_viewers || is_new(limit)))
     }
 }
 
 fn records(seed: u64, call: Call, wanted: usize) -> Records {
-    Records {
-        drawn: choose(shelf(seed, call, wanted), wanted),
-        limits: limits(call).iter().map(|case| record(case).1).collect(),
-    }
+    let limits: Vec<Vec<u8>> = limits(call).iter().map(|case| record(case).1).collect();
+    // A viewer's calls are the rack's but for the limits, so fewer will do.
+    let wanted = match call.site() {
+        Site::Rack => wanted,
+        Site::Viewer => wanted * 2 / 5,
+    };
+    Records { drawn: choose(shelf(seed, call, wanted, &limits), wanted), limits }
 }
 
 /// The file of a call: drawn cases, then those about limits.
@@ -389,7 +601,7 @@ pub fn vectors(seed: u64, call: Call, wanted: usize) -> Vec<u8> {
 }
 
 /// Bytes that the gate's file may have.
-pub const GATE_BYTES: usize = 580_000;
+pub const GATE_BYTES: usize = 720_000;
 
 /// Words of a mesh that the gate's program has room for: six blocks.
 const GATE_MESH: u32 = 6 * image::WORDS as u32;
@@ -405,10 +617,10 @@ fn u64_at(bytes: &[u8], at: usize) -> u64 {
 /// Whether the gate's program has room for what a record lends. A next move there has an answer of its own, so none is lent.
 fn has_room(call: Call, record: &[u8]) -> bool {
     match call {
-        Call::CheckMesh => u32_at(record, 4) <= GATE_MESH,
+        Call::CheckMesh => u32_at(record, 8) <= GATE_MESH,
         Call::NextMove => {
             let lent = u32_at(record, record.len() - 8 * ANSWER - 4);
-            u32_at(record, 60) <= GATE_MESH && lent as usize == ANSWER
+            u32_at(record, 64) <= GATE_MESH && lent as usize == ANSWER
         }
         _ => true,
     }
@@ -420,7 +632,7 @@ pub struct Gate {
     pub output: String,
 }
 
-fn gate_of(calls: &[(Call, Records)]) -> Gate {
+fn gate_of<'a>(calls: &'a [(Call, Records)]) -> Gate {
     let mut input = Vec::new();
     let mut counts: BTreeMap<Call, BTreeMap<u32, usize>> =
         calls.iter().map(|(call, _)| (*call, BTreeMap::new())).collect();
@@ -435,11 +647,12 @@ fn gate_of(calls: &[(Call, Records)]) -> Gate {
     for (call, records) in calls {
         records.drawn.iter().for_each(|bytes| add(*call, bytes));
     }
-    // Those about limits come last, first those that have to be there: the others are left out where they do not fit.
+    // Those about limits come last, first those that have to be there, short ones first: others are left out where they do not fit.
     for needed in [true, false] {
-        for (call, records) in calls {
-            records.limits(needed).for_each(|bytes| add(*call, bytes));
-        }
+        let of = |(call, records): &'a (Call, Records)| records.limits(*call, needed).map(|bytes| (*call, bytes));
+        let mut limits: Vec<(Call, &Vec<u8>)> = calls.iter().flat_map(of).collect();
+        limits.sort_by_key(|(_, bytes)| bytes.len());
+        limits.into_iter().for_each(|(call, bytes)| add(call, bytes));
     }
     let mut output = String::new();
     for (call, answers) in &counts {

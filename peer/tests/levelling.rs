@@ -19,6 +19,19 @@ fn balancings_end_in_every_way() {
     for (mesh, start) in meshes[1..].iter().zip(starts) {
         assert!(mesh.starts_with(start), "{mesh}");
     }
+    // With viewers, behind the twenty-one of the rack: what a viewer may not have stays or goes to the next, and its room ends it.
+    let with_viewers = [
+        "2\ncounts 5 0\nmove 0 1 67\nmove 0 1 139\nlevel\ncounts 3 2\n",
+        "2\ncounts 4 0\nmove 0 1 67\nmove 0 1 139\nlevel\ncounts 2 2\n",
+        "3\ncounts 4 0 0\nmove 0 2 1\nmove 0 2 67\nblocked\ncounts 2 0 2\n",
+        "3\ncounts 0 12 0\nmove 1 0 1\n",
+        "2\ncounts 5 1\nmove 0 1 1\nmove 0 1 7\nlevel\ncounts 3 3\n",
+        "2\ncounts 5 1\nmove 0 1 1\nblocked\ncounts 4 2\n",
+        "3\ncounts 0 3 1\nmove 1 0 1\nlevel\ncounts 1 2 1\n",
+    ];
+    for (mesh, start) in meshes[22..].iter().zip(with_viewers) {
+        assert!(mesh.starts_with(start), "{mesh}");
+    }
     let with = |end: &str| meshes.iter().filter(|mesh| mesh.contains(end)).count();
     assert!(
         with("\nlevel\n") > 10 && with("\nblocked\n") > 1 && with("\nrefused 24\n") == 1 && with("\nrefused 28\n") == 1

@@ -8,6 +8,7 @@ use peer::lent::Peer;
 use peer::plain::{is_sound, Plain};
 use peer::rng::Rng;
 use peer::simulate::simulate;
+use peer::value::RACK;
 
 #[test]
 fn plain_equals_value_on_damaged_input() {
@@ -48,7 +49,7 @@ fn plain_equals_value_on_larger_meshes() {
 fn plain_question_2_equals_the_value_version() {
     for seed in 0..400 {
         let mut rng = Rng::new(seed);
-        for block in generate::mesh(&mut rng, Size::Small) {
+        for block in generate::mesh(&mut rng, Size::Small).blocks {
             let words = image::encode(&block);
             assert!(is_sound(&words));
             for _ in 0..10 {
@@ -63,7 +64,7 @@ fn plain_question_2_equals_the_value_version() {
                         _ => other[at] ^ 1 << rng.below(3),
                     };
                 }
-                assert_eq!(is_sound(&other), image::sound_block(&other).is_some(), "seed {seed}");
+                assert_eq!(is_sound(&other), image::sound_block(&other, RACK).is_some(), "seed {seed}");
             }
         }
     }

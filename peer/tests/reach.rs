@@ -6,6 +6,7 @@ use peer::generate::{self, Size};
 use peer::image::{self, WORDS};
 use peer::lent::Peer;
 use peer::rng::Rng;
+use peer::value::{Site, RACK};
 use std::collections::{BTreeMap, BTreeSet};
 
 #[test]
@@ -54,12 +55,12 @@ fn generated_meshes_are_sound_and_varied() {
             Size::Small
         };
         let mesh = generate::mesh(&mut rng, size);
-        assert_eq!(peer::mesh::check(&mesh), Ok(()), "seed {seed}");
-        blocks_seen.insert(mesh.len());
-        for block in &mesh {
+        assert_eq!(peer::mesh::check(&mesh.blocks), Ok(()), "seed {seed}");
+        blocks_seen.insert(mesh.blocks.len());
+        for block in &mesh.blocks {
             let words = image::encode(block);
             assert_eq!(words.len(), WORDS);
-            assert_eq!(image::sound_block(&words).as_ref(), Some(block), "seed {seed}");
+            assert_eq!(image::sound_block(&words, RACK).as_ref(), Some(block), "seed {seed}");
             full += usize::from(block.darts.len() == 4096);
             top += usize::from(block.counter > u32::MAX - 10);
             over += usize::from(
@@ -76,8 +77,8 @@ fn generated_meshes_are_sound_and_varied() {
         let mut rng = Rng::new(seed);
         let count = rng.between(1, 3);
         let mesh = generate::mesh_of(&mut rng, Size::Large, count);
-        assert_eq!(peer::mesh::check(&mesh), Ok(()), "seed {seed}");
-        assert!(mesh.iter().all(peer::sound::is_sound), "seed {seed}");
+        assert_eq!(peer::mesh::check(&mesh.blocks), Ok(()), "seed {seed}");
+        assert!(mesh.blocks.iter().all(|block| peer::sound::is_sound(block, RACK)), "seed {seed}");
     }
     assert_eq!(blocks_seen, (1..=16).collect());
     for (what, count) in [
@@ -98,9 +99,9 @@ fn blocks_and_files_round_trip() {
     for seed in 0..200 {
         let mut rng = Rng::new(seed);
         let size = if seed % 40 == 0 { Size::Large } else { Size::Small };
-        for block in generate::mesh(&mut rng, size) {
+        for block in generate::mesh(&mut rng, size).blocks {
             let bytes = peer::calls::save_file(&block, usize::MAX).unwrap();
-            let read = peer::calls::read_file(&bytes).unwrap();
+            let read = peer::calls::read_file(RACK, &bytes).unwrap();
             assert_eq!(read, block);
             assert_eq!(peer::calls::save_file(&read, bytes.len()).unwrap(), bytes);
         }
@@ -113,9 +114,9 @@ fn every_file_that_is_read_is_written_back() {
     for seed in 0..300 {
         let mut rng = Rng::new(seed);
         let mesh = generate::mesh(&mut rng, Size::Small);
-        for (_, case) in damage::blocks::read_file(&mut rng, &mesh) {
+        for (_, case) in damage::blocks::read_file(&mut rng, Site::Rack, &mesh.blocks, &mesh.blocks) {
             let cases::Case::ReadFile { file, .. } = case else { continue };
-            if let Ok(block) = peer::calls::read_file(&file) {
+            if let Ok(block) = peer::calls::read_file(RACK, &file) {
                 served += 1;
                 assert_eq!(peer::calls::save_file(&block, usize::MAX), Ok(file));
             }
@@ -130,11 +131,11 @@ fn messages_round_trip() {
     for seed in 0..200 {
         let mut rng = Rng::new(seed);
         let mesh = generate::mesh(&mut rng, Size::Small);
-        for block in &mesh {
+        for block in &mesh.blocks {
             for cell in peer::cells::volumes(block, block.darts.keys().copied()) {
                 let to = (u64::from(block.number) + 1) % 16;
                 let serial = u64::from(*cell.first().unwrap());
-                let Ok(sent) = peer::calls::send(block, to, serial, usize::MAX) else { continue };
+                let Ok(sent) = peer::calls::send(RACK, block, to, serial, usize::MAX) else { continue };
                 for bytes in peer::message::split(&sent).unwrap() {
                     let message = peer::message::decode(bytes).unwrap();
                     assert_eq!(peer::message::encode(&message), bytes);

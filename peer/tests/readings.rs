@@ -10,7 +10,7 @@ use peer::image::{self, ANSWER, SCRATCH, WORDS};
 use peer::lent::{Core, OracleNumbers, Peer};
 use peer::mesh;
 use peer::message::{self, Index, Message, Transfer, Update};
-use peer::value::{Answer, Block, Label, No, Point, Third};
+use peer::value::{Answer, Block, Label, No, Point, Site, Third, Viewers, RACK, VIEWER};
 
 const ROOM: usize = 65_536;
 
@@ -39,7 +39,7 @@ fn transfer(bytes: &[u8]) -> Transfer {
 }
 
 fn sent(change: impl Fn(&mut Transfer)) -> Vec<u8> {
-    let mut t = transfer(&send(&p(), 1, 1, ROOM).unwrap());
+    let mut t = transfer(&send(RACK, &p(), 1, 1, ROOM).unwrap());
     change(&mut t);
     message::encode(&Message::Transfer(t))
 }
@@ -52,20 +52,20 @@ fn update(update: Update) -> Vec<u8> {
 fn a_face_critical_with_two_blocks_is_6() {
     let mut block = p();
     critical(&mut block, [1, 2, 3], 1, [label(2, 0, 0), label(2, 0, 1), label(2, 0, 2)]);
-    assert_eq!(read_file(&file::encode(&block)), Ok(block.clone()));
+    assert_eq!(read_file(RACK, &file::encode(&block)), Ok(block.clone()));
     block.darts.get_mut(&2).unwrap().third = Third::Critical { other: 2, label: label(2, 0, 1) };
-    assert_eq!(read_file(&file::encode(&block)), Err(No(6)));
+    assert_eq!(read_file(RACK, &file::encode(&block)), Err(No(6)));
 }
 
 #[test]
 fn both_layouts_are_read_by_both_calls() {
-    let transfer = send(&p(), 1, 1, ROOM).unwrap();
+    let transfer = send(RACK, &p(), 1, 1, ROOM).unwrap();
     let fits = update(Update { from: 0, to: 1, new: 2, labels: vec![] });
-    assert_eq!(receive(&Block::empty(1), &fits), Err(No(17)));
+    assert_eq!(receive(RACK, &Block::empty(1), &fits), Err(No(17)));
     assert_eq!(redirect(&Block::empty(1), &transfer), Err(No(17)));
     let mut broken = fits.clone();
     broken[5] = 1;
-    assert_eq!(receive(&Block::empty(1), &broken), Err(No(16)));
+    assert_eq!(receive(RACK, &Block::empty(1), &broken), Err(No(16)));
     let mut broken = transfer;
     broken[4] = 4;
     assert_eq!(redirect(&Block::empty(1), &broken), Err(No(16)));
@@ -75,24 +75,24 @@ fn both_layouts_are_read_by_both_calls() {
 fn indices_past_the_darts() {
     let one = Block::empty(1);
     let labels = vec![label(9, 0, 0), label(9, 0, 1), label(9, 0, 2)];
-    assert_eq!(receive(&one, &sent(|t| t.part2.push((label(0, 0, 0), Index(6))))), Err(No(20)));
-    assert_eq!(receive(&one, &sent(|t| t.part3.push((4, Index(6))))), Err(No(20)));
-    assert_eq!(receive(&one, &sent(|t| t.part3.push((4, Index(u32::MAX))))), Err(No(20)));
-    assert_eq!(receive(&one, &sent(|t| t.part4.push((Index(6), 5, labels.clone())))), Err(No(16)));
+    assert_eq!(receive(RACK, &one, &sent(|t| t.part2.push((label(0, 0, 0), Index(6))))), Err(No(20)));
+    assert_eq!(receive(RACK, &one, &sent(|t| t.part3.push((4, Index(6))))), Err(No(20)));
+    assert_eq!(receive(RACK, &one, &sent(|t| t.part3.push((4, Index(u32::MAX))))), Err(No(20)));
+    assert_eq!(receive(RACK, &one, &sent(|t| t.part4.push((Index(6), 5, labels.clone())))), Err(No(16)));
     // Inside a face: its number of labels is read, then 20.
-    assert_eq!(receive(&one, &sent(|t| t.part4.push((Index(4), 5, labels.clone())))), Err(No(20)));
-    assert!(receive(&one, &sent(|t| t.part4.push((Index(3), 5, labels.clone())))).is_ok());
+    assert_eq!(receive(RACK, &one, &sent(|t| t.part4.push((Index(4), 5, labels.clone())))), Err(No(20)));
+    assert!(receive(RACK, &one, &sent(|t| t.part4.push((Index(3), 5, labels.clone())))).is_ok());
 }
 
 #[test]
 fn vertices_are_the_rings() {
     let one = Block::empty(1);
-    assert_eq!(receive(&one, &sent(|t| t.points.push(Point::default()))), Err(No(19)));
-    assert_eq!(receive(&one, &sent(|t| t.points.push(Point([0x7ff0_0000_0000_0000, 0, 0])))), Err(No(18)));
-    assert_eq!(receive(&one, &sent(|t| t.points.truncate(2))), Err(No(19)));
-    assert_eq!(receive(&one, &sent(|t| t.faces[0][0].0 = 3)), Err(No(19)));
-    assert_eq!(receive(&one, &sent(|t| t.faces.push(vec![]))), Err(No(19)));
-    assert_eq!(receive(&one, &sent(|t| t.faces.clear())), Err(No(16)));
+    assert_eq!(receive(RACK, &one, &sent(|t| t.points.push(Point::default()))), Err(No(19)));
+    assert_eq!(receive(RACK, &one, &sent(|t| t.points.push(Point([0x7ff0_0000_0000_0000, 0, 0])))), Err(No(18)));
+    assert_eq!(receive(RACK, &one, &sent(|t| t.points.truncate(2))), Err(No(19)));
+    assert_eq!(receive(RACK, &one, &sent(|t| t.faces[0][0].0 = 3)), Err(No(19)));
+    assert_eq!(receive(RACK, &one, &sent(|t| t.faces.push(vec![]))), Err(No(19)));
+    assert_eq!(receive(RACK, &one, &sent(|t| t.faces.clear())), Err(No(16)));
 }
 
 #[test]
@@ -101,28 +101,28 @@ fn any_label_of_a_part_2_face_that_fits_is_taken() {
     critical(&mut held, [101, 102, 103], 0, [label(5, 0, 0), label(5, 0, 1), label(5, 0, 2)]);
     let mut arriving = flat(p());
     critical(&mut arriving, [1, 2, 3], 1, [label(5, 0, 0), label(5, 0, 2), label(5, 0, 1)]);
-    let bytes = send(&arriving, 1, 1, ROOM).unwrap();
-    assert_eq!(receive(&held, &bytes).unwrap().darts[&1].third, Third::Sewn(101));
+    let bytes = send(RACK, &arriving, 1, 1, ROOM).unwrap();
+    assert_eq!(receive(RACK, &held, &bytes).unwrap().darts[&1].third, Third::Sewn(101));
     let mut turned = transfer(&bytes);
     turned.part2[0].0 = label(5, 0, 1);
-    let after = receive(&held, &message::encode(&Message::Transfer(turned.clone()))).unwrap();
+    let after = receive(RACK, &held, &message::encode(&Message::Transfer(turned.clone()))).unwrap();
     assert_eq!(after.darts[&1].third, Third::Sewn(102));
     assert_eq!(after.darts[&2].third, Third::Sewn(101));
     assert_eq!(after.darts[&3].third, Third::Sewn(103));
-    assert!(peer::sound::is_sound(&after));
+    assert!(peer::sound::is_sound(&after, RACK));
     // New means not held by the block as given, even where part 2 would remove it.
     turned.part4.push((Index(3), 7, vec![label(5, 0, 0), label(5, 1, 1), label(5, 1, 2)]));
-    assert_eq!(receive(&held, &message::encode(&Message::Transfer(turned))), Err(No(20)));
+    assert_eq!(receive(RACK, &held, &message::encode(&Message::Transfer(turned))), Err(No(20)));
 }
 
 #[test]
 fn part_3_starts_at_any_number() {
     let one = Block::empty(1);
-    let after = receive(&one, &sent(|t| t.part3 = vec![(u32::MAX - 1, Index(0)), (u32::MAX, Index(3))])).unwrap();
+    let after = receive(RACK, &one, &sent(|t| t.part3 = vec![(u32::MAX - 1, Index(0)), (u32::MAX, Index(3))])).unwrap();
     assert_eq!(after.darts[&5].third, Third::Critical { other: 0, label: label(0, u32::MAX, 1) });
-    assert_eq!(receive(&one, &sent(|t| t.part3 = vec![(u32::MAX, Index(0)), (0, Index(3))])), Err(No(20)));
-    assert_eq!(receive(&one, &sent(|t| t.part3 = vec![(7, Index(0)), (9, Index(3))])), Err(No(20)));
-    assert_eq!(receive(&one, &sent(|t| t.part3 = vec![(7, Index(0)), (7, Index(3))])), Err(No(20)));
+    assert_eq!(receive(RACK, &one, &sent(|t| t.part3 = vec![(u32::MAX, Index(0)), (0, Index(3))])), Err(No(20)));
+    assert_eq!(receive(RACK, &one, &sent(|t| t.part3 = vec![(7, Index(0)), (9, Index(3))])), Err(No(20)));
+    assert_eq!(receive(RACK, &one, &sent(|t| t.part3 = vec![(7, Index(0)), (7, Index(3))])), Err(No(20)));
 }
 
 #[test]
@@ -156,22 +156,22 @@ fn the_first_no_gives_the_number() {
         t.faces[0][0].0 = 9;
         t.part3.push((0, Index(1)));
     };
-    assert_eq!(receive(&Block::empty(2), &sent(wrong)), Err(No(17)));
-    assert_eq!(receive(&one, &sent(wrong)), Err(No(18)));
-    assert_eq!(send(&p(), 0, 0, 0), Err(No(9)));
-    assert_eq!(send(&p(), 16, 0, 0), Err(No(9)));
-    assert_eq!(send(&p(), 1, 0, 0), Err(No(10)));
-    assert_eq!(send(&p(), 1, 1 << 32 | 1, 0), Err(No(10)));
-    assert_eq!(Peer.empty(16, &mut []), 1);
-    assert_eq!(Peer.empty(16, &mut vec![0; WORDS]), 9);
-    assert_eq!(Peer.read_file(&[], &mut []), 1);
-    assert_eq!(Peer.receive(&mut vec![1; WORDS], &[]), 2);
+    assert_eq!(receive(RACK, &Block::empty(2), &sent(wrong)), Err(No(17)));
+    assert_eq!(receive(RACK, &one, &sent(wrong)), Err(No(18)));
+    assert_eq!(send(RACK, &p(), 0, 0, 0), Err(No(9)));
+    assert_eq!(send(RACK, &p(), 16, 0, 0), Err(No(9)));
+    assert_eq!(send(RACK, &p(), 1, 0, 0), Err(No(10)));
+    assert_eq!(send(RACK, &p(), 1, 1 << 32 | 1, 0), Err(No(10)));
+    assert_eq!(Peer.empty(Site::Rack, 16, &mut []), 1);
+    assert_eq!(Peer.empty(Site::Rack, 16, &mut vec![0; WORDS]), 9);
+    assert_eq!(Peer.read_file(Site::Rack, &[], &mut []), 1);
+    assert_eq!(Peer.receive(Site::Rack, &mut vec![1; WORDS], &[]), 2);
 }
 
 #[test]
 fn mesh_questions_in_order() {
     let mut scratch = vec![0; SCRATCH];
-    let mut check = |mesh: &[u64]| Peer.check_mesh(mesh, &mut scratch);
+    let mut check = |mesh: &[u64]| Peer.check_mesh(mesh, Viewers::NONE, &mut scratch);
     let words = |blocks: &[Block]| blocks.iter().flat_map(image::encode).collect::<Vec<u64>>();
     assert_eq!(check(&[]), 23);
     assert_eq!(check(&[0; 5]), 1);
@@ -185,10 +185,10 @@ fn mesh_questions_in_order() {
     // 2 for any block comes before 23.
     seventeen[16 * WORDS + 7] = 1;
     assert_eq!(check(&seventeen), 2);
-    assert_eq!(Peer.check_mesh(&[], &mut vec![0; SCRATCH - 1]), 1);
+    assert_eq!(Peer.check_mesh(&[], Viewers::NONE, &mut vec![0; SCRATCH - 1]), 1);
     let mut stained = vec![0; SCRATCH];
     stained[SCRATCH - 1] = 1;
-    assert_eq!(Peer.check_mesh(&seventeen, &mut stained), 1);
+    assert_eq!(Peer.check_mesh(&seventeen, Viewers::NONE, &mut stained), 1);
 
     // A named block outside the mesh is 25, a maker outside it 27.
     let (mut zero, mut one) = (p(), pillow(3, 1, 11));
@@ -233,7 +233,7 @@ fn mesh_questions_in_order() {
 
 /// What the rule chooses, whatever is told beside it.
 fn choice(mesh: &[Block], oracle: &Oracle) -> Answer<Choice> {
-    next_move(mesh, oracle).map(|next| next.choice)
+    next_move(mesh, Viewers::NONE, oracle).map(|next| next.choice)
 }
 
 fn from_to(donor: u8, recipient: u8, serial: u32) -> Answer<Choice> {
@@ -288,7 +288,7 @@ fn a_donor_has_two_more_than_the_recipient() {
 
 #[test]
 fn the_mean_does_not_choose() {
-    let of = |counts: &[usize]| next_move(&pillows(counts), &Oracle::Every).unwrap();
+    let of = |counts: &[usize]| next_move(&pillows(counts), Viewers::NONE, &Oracle::Every).unwrap();
     let from_0_to_1 = Choice::Move { donor: 0, recipient: 1, serial: 1 };
     // Donors below the mean and at it, recipients at it and above it.
     for (counts, mean) in
@@ -307,17 +307,17 @@ fn level_and_blocked_tell_mean_and_surpluses() {
         surplus
     };
     let level = NextMove { choice: Choice::Level, mean: 1, surplus: with(&[0, 1, 1]) };
-    assert_eq!(next_move(&pillows(&[1, 2, 2]), &Oracle::Every), Ok(level));
+    assert_eq!(next_move(&pillows(&[1, 2, 2]), Viewers::NONE, &Oracle::Every), Ok(level));
     let none = NextMove { choice: Choice::Level, mean: 0, surplus: [0; 16] };
-    assert_eq!(next_move(&pillows(&[0; 16]), &Oracle::Every), Ok(none));
+    assert_eq!(next_move(&pillows(&[0; 16]), Viewers::NONE, &Oracle::Every), Ok(none));
     // Loops, which question 13 keeps where they are; with one more in the other block nobody is below the mean.
     let mut block = pillow(1, 0, 1);
     block.darts.extend(pillow(1, 0, 3).darts);
     let blocked = |mean: u32, first: &[i32]| Ok(NextMove { choice: Choice::Blocked, mean, surplus: with(first) });
-    assert_eq!(next_move(&[block.clone(), Block::empty(1)], &Oracle::Every), blocked(1, &[1, -1]));
+    assert_eq!(next_move(&[block.clone(), Block::empty(1)], Viewers::NONE, &Oracle::Every), blocked(1, &[1, -1]));
     block.darts.extend(pillow(1, 0, 5).darts);
     let mesh = [block, pillow(1, 1, 7), pillow(1, 2, 9)];
-    assert_eq!(next_move(&mesh, &Oracle::Every), blocked(1, &[2, 0, 0]));
+    assert_eq!(next_move(&mesh, Viewers::NONE, &Oracle::Every), blocked(1, &[2, 0, 0]));
 }
 
 #[test]
@@ -346,7 +346,7 @@ fn the_answer_has_21_words() {
     let ask = |counts: &[usize], size: usize| {
         let mesh: Vec<u64> = pillows(counts).iter().flat_map(image::encode).collect();
         let mut answer = vec![STALE; size];
-        let number = Peer.next_move(&mesh, &oracle, &mut vec![0; SCRATCH], &mut answer);
+        let number = Peer.next_move(&mesh, Viewers::NONE, &oracle, &mut vec![0; SCRATCH], &mut answer);
         (number, answer)
     };
     let (number, answer) = ask(&[0, 0, 5], ANSWER);
@@ -362,6 +362,147 @@ fn the_answer_has_21_words() {
     }
     // The size of the answer goes with those of mesh and scratch, before all else.
     let unsound = vec![1; WORDS];
-    assert_eq!(Peer.next_move(&unsound, &oracle, &mut vec![0; SCRATCH], &mut [0; 4]), 1);
-    assert_eq!(Peer.next_move(&unsound, &oracle, &mut vec![0; SCRATCH], &mut [0; ANSWER]), 2);
+    assert_eq!(Peer.next_move(&unsound, Viewers::NONE, &oracle, &mut vec![0; SCRATCH], &mut [0; 4]), 1);
+    assert_eq!(Peer.next_move(&unsound, Viewers::NONE, &oracle, &mut vec![0; SCRATCH], &mut [0; ANSWER]), 2);
+}
+
+/// Blocks of pillows, each given by its sides; serials in the order given.
+fn piles(sides: &[&[usize]]) -> Vec<Block> {
+    let mut serial = 1;
+    let mut blocks: Vec<Block> = (0..sides.len()).map(|number| Block::empty(number as u8)).collect();
+    for (block, sides) in blocks.iter_mut().zip(sides) {
+        for n in *sides {
+            block.darts.extend(pillow(*n, 0, serial).darts);
+            serial += 2 * *n as u32;
+        }
+    }
+    blocks
+}
+
+/// Memory of a viewer.
+fn viewer_words(block: &Block) -> Vec<u64> {
+    image::encode_at(Site::Viewer, block)
+}
+
+#[test]
+fn a_transfer_for_a_viewer_is_asked_29_straight_after_17() {
+    let to_one = |sides: usize| send(RACK, &pillow(sides, 0, 1), 1, 1, ROOM).unwrap();
+    let one = Block::empty(1);
+    let at = |block: &Block, bytes: &[u8]| receive(VIEWER, block, bytes).map(|after| after.darts.len());
+    assert_eq!(at(&one, &to_one(32)), Ok(64));
+    for sides in [33, 100, 256] {
+        assert_eq!(at(&one, &to_one(sides)), Err(No(29)));
+        // 17 comes first: to another block, from the receiver, an update.
+        assert_eq!(at(&Block::empty(2), &to_one(sides)), Err(No(17)));
+        assert_eq!(receive(RACK, &one, &to_one(sides)).map(|after| after.darts.len()), Ok(2 * sides));
+    }
+    let with = |change: &dyn Fn(&mut Transfer)| {
+        let mut t = transfer(&to_one(33));
+        change(&mut t);
+        message::encode(&Message::Transfer(t))
+    };
+    assert_eq!(at(&one, &with(&|t| t.from = 1)), Err(No(17)));
+    // 29 comes before all that follow.
+    for (number, bytes) in [
+        (18, with(&|t| t.faces[0][0].1 = 0)),
+        (18, with(&|t| t.points[0].0[0] = f64::NAN.to_bits())),
+        (19, with(&|t| t.faces[0].rotate_left(1))),
+        (20, with(&|t| t.part3.push((0, Index(1))))),
+    ] {
+        assert_eq!(at(&one, &bytes), Err(No(29)));
+        assert_eq!(receive(RACK, &one, &bytes), Err(No(number)));
+    }
+    // A serial that is held, and no room: 29 again.
+    let full = pillow(126, 1, 1);
+    assert_eq!(at(&full, &to_one(33)), Err(No(29)));
+    assert_eq!(receive(RACK, &full, &to_one(33)), Err(No(18)));
+    // 65 darts are no volume's, and yet more than 64.
+    let mut odd = transfer(&to_one(32));
+    odd.faces[1].push((0, 9000));
+    let odd = message::encode(&Message::Transfer(odd));
+    assert_eq!(at(&one, &odd), Err(No(29)));
+    assert_eq!(receive(RACK, &one, &odd), Err(No(19)));
+}
+
+#[test]
+fn messages_have_512_darts_for_everybody() {
+    let sent = send(RACK, &pillow(256, 0, 1), 1, 1, ROOM).unwrap();
+    let mut over = transfer(&sent);
+    over.faces[1].push((0, 600));
+    let over = message::encode(&Message::Transfer(over));
+    let empty = viewer_words(&Block::empty(1));
+    for (bytes, receives, redirects) in [(&sent, 29, 17), (&over, 16, 16)] {
+        let mut block = empty.clone();
+        assert_eq!(Peer.receive(Site::Viewer, &mut block, bytes), receives);
+        assert_eq!(Peer.redirect(Site::Viewer, &mut block, bytes), redirects);
+        assert_eq!(block, empty);
+    }
+}
+
+#[test]
+fn memory_of_one_site_is_refused_by_1_at_the_other() {
+    let file = file::encode(&p());
+    let sent = send(RACK, &pillow(3, 1, 9), 0, 9, ROOM).unwrap();
+    for (site, memory) in [(Site::Viewer, image::encode(&p())), (Site::Rack, viewer_words(&p()))] {
+        let (mut block, mut out, mut written) = (memory.clone(), vec![7; 200], 99);
+        let answers = [
+            Peer.empty(site, 0, &mut block),
+            Peer.read_file(site, &file, &mut block),
+            Peer.save_file(site, &memory, &mut out, &mut written),
+            Peer.send(site, &memory, 1, 1, &mut out, &mut written),
+            Peer.receive(site, &mut block, &sent),
+            Peer.release(site, &mut block, 1, 1),
+            Peer.redirect(site, &mut block, &sent),
+        ];
+        assert_eq!(answers, [1; 7]);
+        assert_eq!((block, out, written), (memory, vec![7; 200], 99));
+    }
+}
+
+#[test]
+fn the_number_in_the_image_tells_whose_block_it_is() {
+    let check = |blocks: &[Block], bits: u32| {
+        let mesh: Vec<u64> = blocks.iter().flat_map(image::encode).collect();
+        Peer.check_mesh(&mesh, Viewers(bits), &mut vec![0; SCRATCH])
+    };
+    let with = |sides: usize| [Block::empty(0), pillow(sides, 1, 1)];
+    assert_eq!(check(&with(128), 0b10), 0);
+    assert_eq!(check(&with(129), 0b10), 2);
+    // Other bits, those of blocks that are not there and bits 16 to 31 tell nothing.
+    for bits in [0, 0b01, 0xffff_fffd, 0xffff_0000, 1 << 17] {
+        assert_eq!(check(&with(129), bits), 0, "{bits:#b}");
+    }
+    // Numbered 1 in place 0, and 0 in place 1: 2 comes before 23.
+    assert_eq!(check(&[pillow(129, 1, 1)], 0b10), 2);
+    assert_eq!(check(&[pillow(129, 1, 1)], 0b01), 23);
+    assert_eq!(check(&[pillow(128, 1, 1)], 0b10), 23);
+    let turned = [pillow(3, 1, 1), pillow(129, 0, 10)];
+    assert_eq!(check(&turned, 0b01), 2);
+    assert_eq!(check(&turned, 0b10), 23);
+    // 2 of the last before 24 of the first.
+    assert_eq!(check(&[pillow(3, 0, 1), pillow(3, 1, 1), pillow(129, 2, 9)], 0b100), 2);
+    assert_eq!(check(&[pillow(3, 0, 1), pillow(3, 1, 1), pillow(129, 2, 9)], 0b011), 24);
+}
+
+#[test]
+fn a_next_move_reads_64_at_either_end_and_256_at_the_recipient() {
+    let next =
+        |sides: &[&[usize]], bits: u32| next_move(&piles(sides), Viewers(bits), &Oracle::Every).map(|next| next.choice);
+    let blocked = Ok(Choice::Blocked);
+    for bits in [0b10, 0b01, 0b11] {
+        assert_eq!(next(&[&[33, 3], &[]], bits), from_to(0, 1, 67));
+        assert_eq!(next(&[&[33, 33], &[]], bits), blocked);
+        assert_eq!(next(&[&[32, 33], &[]], bits), from_to(0, 1, 1));
+    }
+    assert_eq!(next(&[&[33, 33], &[]], 0xffff_fffc), from_to(0, 1, 1));
+    assert_eq!(next(&[&[33, 33], &[], &[]], 0b010), from_to(0, 2, 1));
+    assert_eq!(next(&[&[33, 33], &[], &[]], 0b100), from_to(0, 1, 1));
+    // Who is not an end of the move has no say.
+    assert_eq!(next(&[&[3], &[33, 33, 33], &[]], 0b001), from_to(1, 2, 7));
+    assert_eq!(next(&[&[3, 3, 3], &[125]], 0b10), from_to(0, 1, 1));
+    assert_eq!(next(&[&[3, 3, 3], &[126]], 0b10), blocked);
+    assert_eq!(next(&[&[3, 3, 3], &[126]], 0b01), from_to(0, 1, 1));
+    assert_eq!(next(&[&[3, 3, 3], &[126], &[]], 0b010), from_to(0, 2, 1));
+    // Send at the rack does not know who gets the volume.
+    assert!(send(RACK, &pillow(33, 0, 1), 1, 1, ROOM).is_ok());
 }

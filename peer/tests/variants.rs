@@ -2,65 +2,25 @@
 
 #[path = "common/records.rs"]
 mod records;
+#[path = "common/variant.rs"]
+mod variant;
 
 use peer::balance::{self, Oracle};
 use peer::calls;
 use peer::cases::{Call, Case, CALLS};
 use peer::image::{self, ANSWER, WORDS};
-use peer::lent::{Core, OracleNumbers, Peer};
+use peer::lent::{Core, Peer};
 use peer::simulate::{self, simulate};
-use peer::value::{Block, Label, Third, MAX_DARTS};
+use peer::value::{Block, Label, Site, Third, Viewers, MAX_CELL, MAX_DARTS, RACK, VIEWER_CELL, VIEWER_DARTS};
 use peer::vectors;
 use records::{parse, Reader};
 use std::collections::BTreeMap;
-
-/// A core that differs from the peer in the calls that end a round.
-struct Variant {
-    receive: fn(&mut [u64], &[u8]) -> u32,
-    release: fn(&mut [u64], u64, u64) -> u32,
-    redirect: fn(&mut [u64], &[u8]) -> u32,
-}
-
-const RIGHT: Variant = Variant {
-    receive: |block, message| Peer.receive(block, message),
-    release: |block, to, serial| Peer.release(block, to, serial),
-    redirect: |block, message| Peer.redirect(block, message),
-};
-
-impl Core for Variant {
-    fn empty(&self, number: u64, block: &mut [u64]) -> u32 {
-        Peer.empty(number, block)
-    }
-    fn read_file(&self, file: &[u8], block: &mut [u64]) -> u32 {
-        Peer.read_file(file, block)
-    }
-    fn save_file(&self, block: &[u64], out: &mut [u8], written: &mut u64) -> u32 {
-        Peer.save_file(block, out, written)
-    }
-    fn send(&self, block: &[u64], to: u64, serial: u64, outbox: &mut [u8], written: &mut u64) -> u32 {
-        Peer.send(block, to, serial, outbox, written)
-    }
-    fn receive(&self, block: &mut [u64], message: &[u8]) -> u32 {
-        (self.receive)(block, message)
-    }
-    fn release(&self, block: &mut [u64], to: u64, serial: u64) -> u32 {
-        (self.release)(block, to, serial)
-    }
-    fn redirect(&self, block: &mut [u64], message: &[u8]) -> u32 {
-        (self.redirect)(block, message)
-    }
-    fn check_mesh(&self, mesh: &[u64], scratch: &mut [u64]) -> u32 {
-        Peer.check_mesh(mesh, scratch)
-    }
-    fn next_move(&self, mesh: &[u64], oracle: &OracleNumbers, scratch: &mut [u64], answer: &mut [u64]) -> u32 {
-        Peer.next_move(mesh, oracle, scratch, answer)
-    }
-}
+use variant::{Variant, RIGHT};
 
 /// The right release, then a change that knows the counter before it and the labels it made.
-fn release_then(words: &mut [u64], to: u64, serial: u64, change: fn(u32, &mut Block)) -> u32 {
+fn release_then(site: Site, words: &mut [u64], to: u64, serial: u64, change: fn(u32, &mut Block)) -> u32 {
     let before = image::decode(words).map_or(0, |block| block.counter);
-    let answer = Peer.release(words, to, serial);
+    let answer = Peer.release(site, words, to, serial);
     if answer == 0 {
         let mut block = image::decode(words).unwrap();
         change(before, &mut block);
@@ -103,8 +63,8 @@ fn notices(name: &str, variant: Variant) {
         Ok(_) => panic!("{name}: not noticed"),
         Err(failure) => {
             // The shrunk case still shows the disagreement.
-            assert!(simulate::play(&variant, &failure.blocks, &failure.turns).is_err(), "{name}");
-            assert!(simulate::play(&RIGHT, &failure.blocks, &failure.turns).is_ok(), "{name}");
+            assert!(simulate::play(&variant, &failure.mesh, &failure.turns).is_err(), "{name}");
+            assert!(simulate::play(&RIGHT, &failure.mesh, &failure.turns).is_ok(), "{name}");
             println!("{name}: {} after {} requests", failure.what, failure.turns.len());
         }
     }
@@ -112,32 +72,38 @@ fn notices(name: &str, variant: Variant) {
 
 #[test]
 fn labels_in_the_own_direction_are_noticed() {
-    notices("own direction", Variant { release: |b, to, s| release_then(b, to, s, own_direction), ..RIGHT });
+    notices(
+        "own direction",
+        Variant { release: |site, b, to, s| release_then(site, b, to, s, own_direction), ..RIGHT },
+    );
 }
 
 #[test]
 fn a_number_used_again_is_noticed() {
-    notices("number again", Variant { release: |b, to, s| release_then(b, to, s, number_again), ..RIGHT });
+    notices("number again", Variant { release: |site, b, to, s| release_then(site, b, to, s, number_again), ..RIGHT });
 }
 
 #[test]
 fn a_release_that_only_pretends_is_noticed() {
-    notices("pretended release", Variant { release: |_, _, _| 0, ..RIGHT });
+    notices("pretended release", Variant { release: |_, _, _, _| 0, ..RIGHT });
 }
 
 #[test]
 fn redirects_left_out_are_noticed() {
-    notices("redirects left out", Variant { redirect: |_, _| 0, ..RIGHT });
+    notices("redirects left out", Variant { redirect: |_, _, _| 0, ..RIGHT });
 }
 
 #[test]
 fn nothing_moved_is_noticed() {
-    notices("nothing moved", Variant { receive: |_, _| 0, release: |_, _, _| 0, redirect: |_, _| 0 });
+    notices("nothing moved", Variant { receive: |_, _, _| 0, release: |_, _, _, _| 0, redirect: |_, _, _| 0, ..RIGHT });
 }
 
 #[test]
 fn a_counter_advanced_by_darts_is_noticed() {
-    notices("counter by darts", Variant { release: |b, to, s| release_then(b, to, s, counter_by_darts), ..RIGHT });
+    notices(
+        "counter by darts",
+        Variant { release: |site, b, to, s| release_then(site, b, to, s, counter_by_darts), ..RIGHT },
+    );
 }
 
 #[test]
@@ -185,6 +151,8 @@ struct Rule {
     key: fn(&Counts, usize, usize) -> [usize; 2],
     /// How many pairs are tried, and how many volumes of each.
     tried: [usize; 2],
+    /// Most darts of a volume from a donor to a recipient, and of the recipient afterwards.
+    most: fn(Viewers, usize, usize) -> [usize; 2],
     /// Whether what has no move is level.
     level: fn(&Counts) -> bool,
     /// Writes mean and surpluses beside the move.
@@ -196,20 +164,21 @@ const RULE: Rule = Rule {
     gives: |c, donor, recipient| c.of[donor] >= c.of[recipient] + 2,
     key: |_, donor, recipient| [donor, recipient],
     tried: [usize::MAX; 2],
+    most: |v, donor, recipient| [v.cell(donor, recipient), v.darts(recipient)],
     level: |c| c.within(2),
     tell: |c, words| c.tell(words, c.mean, |surplus| surplus as u64),
 };
 
 impl Rule {
-    fn answer(&self, blocks: &[Block], oracle: &Oracle) -> [u64; ANSWER] {
+    fn answer(&self, blocks: &[Block], viewers: Viewers, oracle: &Oracle) -> [u64; ANSWER] {
         let counts = Counts::new((self.counts)(blocks, oracle));
         let mut words = [0; ANSWER];
-        words[..4].copy_from_slice(&self.choose(blocks, oracle, &counts));
+        words[..4].copy_from_slice(&self.choose(blocks, viewers, oracle, &counts));
         (self.tell)(&counts, &mut words);
         words
     }
 
-    fn choose(&self, blocks: &[Block], oracle: &Oracle, counts: &Counts) -> [u64; 4] {
+    fn choose(&self, blocks: &[Block], viewers: Viewers, oracle: &Oracle, counts: &Counts) -> [u64; 4] {
         let all = 0..blocks.len();
         let pairs = all.clone().flat_map(|donor| all.clone().map(move |recipient| (donor, recipient)));
         let mut pairs: Vec<_> = pairs.filter(|(donor, recipient)| (self.gives)(counts, *donor, *recipient)).collect();
@@ -218,8 +187,9 @@ impl Rule {
         for (donor, recipient) in pairs.into_iter().take(self.tried[0]) {
             for cell in picked[donor].iter().take(self.tried[1]) {
                 let serial = u64::from(*cell.first().unwrap());
-                let has_room = blocks[recipient].darts.len() + cell.len() <= MAX_DARTS;
-                if has_room && calls::may_leave(&blocks[donor], recipient as u64, serial) {
+                let [most, held] = (self.most)(viewers, donor, recipient);
+                let has_room = blocks[recipient].darts.len() + cell.len() <= held;
+                if has_room && calls::may_leave(most, &blocks[donor], recipient as u64, serial) {
                     return [2, donor as u64, recipient as u64, serial];
                 }
             }
@@ -259,6 +229,41 @@ fn wrong_rules() -> Vec<(&'static str, Rule)> {
         ("the greatest donor", Rule { key: |c, d, r| [usize::MAX - c.of[d], r], ..RULE }),
         ("the least recipient", Rule { key: |c, d, r| [d, c.of[r]], ..RULE }),
         ("the recipient first", Rule { key: |_, d, r| [r, d], ..RULE }),
+        ("512 wherever", Rule { most: |v, _, r| [MAX_CELL, v.darts(r)], ..RULE }),
+        (
+            "64 wherever there are viewers",
+            Rule { most: |v, _, r| [if v.0 == 0 { 512 } else { 64 }, v.darts(r)], ..RULE },
+        ),
+        ("64 wherever", Rule { most: |v, _, r| [VIEWER_CELL, v.darts(r)], ..RULE }),
+        ("64 by the recipient alone", Rule { most: |v, _, r| [v.site(r).limits().cell, v.darts(r)], ..RULE }),
+        ("64 by the donor alone", Rule { most: |v, d, r| [v.site(d).limits().cell, v.darts(r)], ..RULE }),
+        ("64 where both are viewers'", Rule { most: |v, d, r| [v.cell(d, d).max(v.cell(r, r)), v.darts(r)], ..RULE }),
+        (
+            "62 at a viewer",
+            Rule { most: |v, d, r| [v.cell(d, r) - 2 * usize::from(v.cell(d, r) == 64), v.darts(r)], ..RULE },
+        ),
+        (
+            "66 at a viewer",
+            Rule { most: |v, d, r| [v.cell(d, r) + 2 * usize::from(v.cell(d, r) == 64), v.darts(r)], ..RULE },
+        ),
+        ("4,096 wherever", Rule { most: |v, d, r| [v.cell(d, r), MAX_DARTS], ..RULE }),
+        ("256 wherever", Rule { most: |v, d, r| [v.cell(d, r), VIEWER_DARTS], ..RULE }),
+        ("256 by the donor", Rule { most: |v, d, r| [v.cell(d, r), v.darts(d)], ..RULE }),
+        ("256 at either end", Rule { most: |v, d, r| [v.cell(d, r), v.darts(d).min(v.darts(r))], ..RULE }),
+        (
+            "254 at a viewer",
+            Rule { most: |v, d, r| [v.cell(d, r), v.darts(r) - 2 * usize::from(v.darts(r) == 256)], ..RULE },
+        ),
+        (
+            "258 at a viewer",
+            Rule { most: |v, d, r| [v.cell(d, r), v.darts(r) + 2 * usize::from(v.darts(r) == 256)], ..RULE },
+        ),
+        ("bits 16 to 31 too", Rule { most: |v, d, r| (RULE.most)(Viewers(v.0 | v.0 >> 16), d, r), ..RULE }),
+        (
+            "any bit for all",
+            Rule { most: |v, d, r| (RULE.most)(Viewers(if v.0 == 0 { 0 } else { u32::MAX }), d, r), ..RULE },
+        ),
+        ("the next block's bit", Rule { most: |v, d, r| (RULE.most)(Viewers(v.0 << 1), d, r), ..RULE }),
         ("one pair alone", Rule { tried: [1, usize::MAX], ..RULE }),
         ("one volume alone", Rule { tried: [usize::MAX, 1], ..RULE }),
         (
@@ -322,8 +327,8 @@ fn wrong_rules() -> Vec<(&'static str, Rule)> {
     ]
 }
 
-/// The next moves that the gate's file has served: blocks, oracle, answer.
-fn served() -> Vec<(Vec<Block>, Oracle, Vec<u64>)> {
+/// The next moves that the gate's file has served: blocks, viewers, oracle, answer.
+fn served() -> Vec<(Vec<Block>, Viewers, Oracle, Vec<u64>)> {
     let gate = vectors::gate(1, 60);
     let mut rest = Reader { bytes: &gate.input };
     let mut found = Vec::new();
@@ -333,9 +338,9 @@ fn served() -> Vec<(Vec<Block>, Oracle, Vec<u64>)> {
         if call != Call::NextMove {
             continue;
         }
-        if let (Case::NextMove { mesh, oracle, .. }, 0, Case::NextMove { answer, .. }) = parse(call, &record) {
-            let blocks = mesh.chunks_exact(WORDS).map(|words| image::sound_block(words).unwrap()).collect();
-            found.push((blocks, oracle.oracle().unwrap(), answer));
+        if let (Case::NextMove { mesh, viewers, oracle, .. }, 0, Case::NextMove { answer, .. }) = parse(call, &record) {
+            let blocks = mesh.chunks_exact(WORDS).map(|words| image::sound_block(words, RACK).unwrap()).collect();
+            found.push((blocks, viewers, oracle.oracle().unwrap(), answer));
         }
     }
     found
@@ -344,8 +349,9 @@ fn served() -> Vec<(Vec<Block>, Oracle, Vec<u64>)> {
 #[test]
 fn wrong_rules_are_told_apart() {
     let served = served();
-    let told_apart =
-        |rule: &Rule| served.iter().any(|(blocks, oracle, answer)| rule.answer(blocks, oracle)[..] != answer[..]);
+    let told_apart = |rule: &Rule| {
+        served.iter().any(|(blocks, viewers, oracle, answer)| rule.answer(blocks, *viewers, oracle)[..] != answer[..])
+    };
     assert!(!told_apart(&RULE), "the right rule is accused");
     let missed: Vec<&str> = wrong_rules().iter().filter(|(_, rule)| !told_apart(rule)).map(|(name, _)| *name).collect();
     assert!(missed.is_empty(), "not told apart: {missed:?}");

@@ -33,7 +33,7 @@ fn the_default_set_is_small_complete_and_right() {
         assert!(long <= 4, "{}: {long} long records", call.name());
     }
     println!("{total} bytes in all");
-    assert!(total < 2_000_000, "{total}");
+    assert!(total < 2_250_000, "{total}");
 }
 
 #[test]
@@ -63,7 +63,8 @@ fn the_gate_has_every_answer() {
         sorts.insert((call, vectors::sort(call, &record)));
     }
     let all = CALLS.iter().flat_map(|call| vectors::sorts(*call).into_iter().map(|sort| (*call, sort)));
-    assert_eq!(sorts, all.collect());
+    let missing: Vec<_> = all.filter(|sort| !sorts.contains(sort)).collect();
+    assert!(missing.is_empty(), "{missing:?}");
     let mut output = String::new();
     for call in CALLS {
         output += &format!("{}\n", call.name());
@@ -73,4 +74,24 @@ fn the_gate_has_every_answer() {
     }
     output += &format!("as told: {}\n", counts.values().sum::<usize>());
     assert!(gate.output.starts_with(&output), "{}", gate.output);
+}
+
+/// What is about a viewer's limits is in the gate's file, all of it.
+#[test]
+fn the_gate_has_the_limits_of_a_viewer() {
+    let gate = vectors::gate(1, 60);
+    let mut rest = Reader { bytes: &gate.input };
+    let mut played = BTreeSet::new();
+    while !rest.bytes.is_empty() {
+        let call = CALLS[usize::from(rest.take(1)[0])];
+        played.insert((call, rest.bytes()));
+    }
+    let mut count = 0;
+    for call in CALLS.into_iter().filter(|call| *call >= Call::CheckMesh) {
+        for case in vectors::limits(call) {
+            assert!(played.contains(&(call, vectors::record(&case).1)), "{}", call.name());
+            count += 1;
+        }
+    }
+    assert!(count > 50, "{count}");
 }

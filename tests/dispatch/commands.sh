@@ -174,6 +174,72 @@ stopping kill 20 balance all >/dev/null || true
 unchanged balance all --dry-run
 unchanged cells 2 | tail -n 1
 
+# blocks that are viewers': served and refused rounds, a balance that a viewer has no room for, a block with too many darts
+fresh eighteen
+echo 2 >viewers
+run check
+printf '0 2 1\n2 0 1\n' | run play
+unchanged balance all --dry-run
+run balance all
+run check
+run cells 2 | tail -n 1
+unchanged split 4 --dry-run
+fresh eighteen
+echo 1 2 >viewers
+unchanged check
+printf '0 1 1\n1 2 529\n' | run play
+echo 0 2 >viewers
+unchanged check
+printf '0 2 1\n' | unchanged play
+unchanged balance all
+unchanged add 4
+unchanged list 0
+unchanged cells 0
+unchanged cells 2 | tail -n 1
+
+# a cell of 66 darts, two faces back to back with all corners at the origin, and an empty block: too large for a viewer, at either end
+rm -r "$work/eighteen"; mkdir "$work/eighteen"; cd "$work/eighteen"
+octal() { printf '\\%03o' "$@"; }
+printf "\0\0$(octal 66)" >block-00.dmap
+for ((d = 0; d < 66; d++)); do printf "$(octal $((d + 1)) $((d / 33 * 33 + (d + 1) % 33 + 1)) $((66 - d)))\0$o$o$o"; done >>block-00.dmap
+run add 2
+echo 1 >viewers
+printf '0 1 1\n' | unchanged play
+unchanged balance all
+echo 0 >viewers
+printf '0 1 1\n' | unchanged play
+rm viewers
+printf '0 1 1\n' | run play
+
+# the file `viewers`: right lines, wrong ones, and no file; nothing is done where it is wrong, also over a save that was cut
+fresh nineteen
+for line in '\n' '15\n' '1 2 10 15\n' '0 1 2 3 4 5 6 7 8 9 10 11 12 13 14 15\n'; do printf "$line" >viewers; run check; done
+for line in '' '2' '16\n' '02\n' '2 1\n' '2 2\n' '1  2\n' ' 2\n' '2 \n' '1,2\n' '1\t2\n' '2\r\n' '2\n\n' '2\n1\n' 'two\n' '-1\n' '0 1 2 3 4 5 6 7 8 9 10 11 12 13 14 15 16\n'; do
+    printf -- "$line" >viewers
+    printf '%s: ' "$line"
+    "$bin" check 2>&1 || true
+done
+head -c 1000 /dev/zero >viewers
+run check
+rm viewers
+stopping kill 20 balance all >/dev/null || true
+echo 2 1 >viewers
+printf '0 2 1\n' | unchanged play
+unchanged balance all
+unchanged balance all --dry-run
+unchanged split 4
+unchanged add 4
+unchanged list 2
+unchanged cells 2
+rm viewers
+mkdir viewers
+run check
+rmdir viewers
+mkfifo viewers
+run check
+rm viewers
+run check
+
 # a user who may not write, not read a file, not search the folder
 guest() {
     local status as=()
@@ -185,6 +251,11 @@ guest() {
 fresh sixteen
 cp "$dispatch" "$work/program"
 chmod 755 "$work" "$work/program"
+echo 2 >viewers
+chmod 000 viewers
+guest check
+guest list 1
+rm -f viewers
 chmod 555 .
 guest check
 printf '0 2 1\n' | guest play --dry-run

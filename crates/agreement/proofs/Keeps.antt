@@ -11,7 +11,7 @@ use lib.Seq.{take-append-seam, set-getD}
 use borrow.Author.Tests.{eqb-true, eqb-false, ne-eqb, ltb-true, leb-true, not-true}
 use Rattle.model.specs.Lists.{all, any, concat, mem, Check, first-no}
 use Rattle.model.specs.Values.{Label, Block, Limits}
-use Rattle.model.specs.Sound.{sound-block, Fit, volume-limit}
+use Rattle.model.specs.Sound.{sound-block, Fit}
 use Rattle.model.specs.Image.{words-of, image, memory-of}
 use Rattle.model.specs.Layouts.{framed}
 use Rattle.model.specs.Messages.{Transfer, transfer, update, Message, a-transfer}
@@ -19,10 +19,10 @@ use Rattle.model.specs.Departure.{departure-checks, updates-of, messages}
 use Rattle.model.specs.Links.{pairs-once, vertex-pairs}
 use Rattle.model.specs.Arrival.{received, receive-checks, received-from}
 use Rattle.model.specs.Calls.{number-of, Result, storing, writing, send, receive, memories}
-use Rattle.model.specs.Runs.{Request, refused-by, finished, unfinished}
-use Rattle.model.specs.UndividedRun.{State, nx, op, th, cell, inner-faces, request-checks, after-move, Undivided, undivided}
+use Rattle.model.specs.Runs.{Request, Outcome, is-refused, refused-by, finished, unfinished}
+use Rattle.model.specs.UndividedRun.{State, nx, op, th, cell, inner-faces, has-room, request-checks, round-checks, after-move, Undivided, undivided}
 use Rattle.model.specs.DividedRun.{Step, Done, written, called, memory-at, done, run-steps, messages-in, send-step, receive-step, last-steps, sent-messages, Round, round}
-use Rattle.model.specs.Demands.{Enough}
+use Rattle.model.specs.Demands.{Enough, ended}
 use Rattle.laws.proofs.Members.{all-in}
 use Rattle.laws.proofs.Tables.{getD-tab, map-tab}
 use Rattle.laws.proofs.Tests.{by-cases, and-left, and-right, yes-then, no-more, no-here, yes-first, first-no-append, first-no-stays}
@@ -33,7 +33,8 @@ use Rattle.agreement.proofs.BlockSound.{block-sound}
 use Rattle.agreement.proofs.Described.{block-by, mesh-by, Inv}
 use Rattle.agreement.proofs.Finishes.{cut-again, finishes, memories-after}
 use Rattle.agreement.proofs.Moved.{Served, state-after, labels-after, inv-after}
-use Rattle.agreement.proofs.MovedCell.{first-six, twenty-one, checks-split, questions-agree}
+use Rattle.agreement.proofs.MovedCell.{questions-agree}
+use Rattle.agreement.proofs.Numbers.{first-six, last-two, round-split, refused-alike}
 use Rattle.agreement.proofs.Rebuilt.{order}
 use Rattle.agreement.proofs.Sent.{transfer-by}
 use Rattle.agreement.proofs.SentLayout.{transfer-read, receive-asks}
@@ -54,9 +55,10 @@ module _ (lims : ℕ → Limits) (ms : List (List ℕ)) (r : Request) (outbox : 
     unfolding round
     round-taken h after t e = rw (sends, was-sent, takes, h, t, e)
 
--- what both runs keep to
-pub record Kept (lims : ℕ → Limits) (k : ℕ) (d : Round) (w : Undivided) : Type 0 where
-  pub same-outcome : d .outcome ≡ w .outcome
+-- what both runs keep to, of a round that ends so
+pub record Kept (lims : ℕ → Limits) (k : ℕ) (o : Outcome) (d : Round) (w : Undivided) : Type 0 where
+  pub outcome-is : d .outcome ≡ o
+  pub refused-alike : is-refused (d .outcome) ≡ is-refused (w .outcome)
   pub labels-now : ℕ → Label
   pub inv-now : Inv lims k (w .state) labels-now
   pub memories-now : d .memories ≡ map (memory-of lims) (mesh-by k (w .state) labels-now)
@@ -69,6 +71,13 @@ undivided-refuses lims u r n e h = rw (e, ne-eqb n 0 h)
 pub undivided-serves : (lims : ℕ → Limits) (u : State) (r : Request) → first-no (request-checks lims u r) ≡ 0 → undivided lims u r ≡ record { outcome = finished; state = after-move u r }
 unfolding undivided
 undivided-serves lims u r e = rw e
+
+-- how a request ends, by its questions
+ended-refused : (qs : List Check) (n : ℕ) → first-no qs ≡ n → n ≢ 0 → ended qs ≡ refused-by n
+ended-refused qs n e h = rw (e, ne-eqb n 0 h)
+
+pub ended-served : (qs : List Check) → first-no qs ≡ 0 → ended qs ≡ finished
+ended-served qs e = rw e
 
 not-unfinished : (n : ℕ) → refused-by n ≢ unfinished
 not-unfinished n e = let z : _≡_ {A = ℕ} 0 1 = cc in omega arith
@@ -122,23 +131,30 @@ module _ (lims : ℕ → Limits) (fit : Fit lims) (k : ℕ) (u : State) (label :
   agree-six : first-no leaving ≡ first-no (first-six lims u r)
   agree-six = questions-agree lims fit k u label I r from-below to-below
 
-  refused-six : first-no (first-six lims u r) ≢ 0 → Kept lims k (round lims ms r outbox order) (undivided lims u r)
-  refused-six h =
-      let n = first-no (first-six lims u r) in
-      let checks : first-no (request-checks lims u r) ≡ n = ap first-no (checks-split lims u r) ∙ first-no-stays (first-six lims u r) _ h in
-      let un = undivided-refuses lims u r n checks h in
-      let left : first-no leaving ≢ 0 = λ e. h (sym agree-six ∙ e) in
-      let full : first-no (with-fifteen leaving outbox sent-bytes) ≡ n = first-no-stays leaving _ left ∙ agree-six in
-      let wrote = writing-refuses leaving outbox sent-bytes (λ e. h (sym full ∙ e)) in
-      let round-is = round-unsent lims ms r outbox order _ (send-done _ wrote) (ne-eqb (first-no (with-fifteen leaving outbox sent-bytes)) 0 (λ e. h (sym full ∙ e))) in
-      let outcome : round lims ms r outbox order .outcome ≡ refused-by n = ap (λ (z : Round). z .outcome) round-is ∙ ap refused-by full in
+  -- a round that its questions refuse leaves both runs as they were
+  kept-refused : (n : ℕ) → first-no (round-checks lims u r) ≡ n → n ≢ 0 → round lims ms r outbox order ≡ record { outcome = refused-by n; memories = ms }
+      → Kept lims k (ended (round-checks lims u r)) (round lims ms r outbox order) (undivided lims u r)
+  kept-refused n e h round-is =
+      let un = undivided-refuses lims u r _ refl (refused-alike lims u r .0 (λ z. h (sym e ∙ z))) in
+      let outcome : round lims ms r outbox order .outcome ≡ refused-by n = ap (λ (z : Round). z .outcome) round-is in
       record {
-        same-outcome = outcome ∙ ap (λ (z : Undivided). z .outcome) (sym un);
+        outcome-is = outcome ∙ sym (ended-refused (round-checks lims u r) n e h);
+        refused-alike = ap is-refused outcome ∙ ap (λ (z : Undivided). is-refused (z .outcome)) (sym un);
         labels-now = label;
         inv-now = rw un I;
         memories-now = ap (λ (z : Round). z .memories) round-is ∙ ap (λ (z : Undivided). map (memory-of lims) (mesh-by k (z .state) label)) (sym un);
-        never-unfinished = λ e. not-unfinished n (sym outcome ∙ e);
+        never-unfinished = λ z. not-unfinished n (sym outcome ∙ z);
       }
+
+  refused-six : first-no (first-six lims u r) ≢ 0 → Kept lims k (ended (round-checks lims u r)) (round lims ms r outbox order) (undivided lims u r)
+  refused-six h =
+      let n = first-no (first-six lims u r) in
+      let left : first-no leaving ≢ 0 = λ e. h (sym agree-six ∙ e) in
+      let full : first-no (with-fifteen leaving outbox sent-bytes) ≡ n = first-no-stays leaving _ left ∙ agree-six in
+      let wrote = writing-refuses leaving outbox sent-bytes (λ e. h (sym full ∙ e)) in
+      kept-refused n (ap first-no (round-split lims u r) ∙ first-no-stays (first-six lims u r) (last-two lims u r) h) h
+      (round-unsent lims ms r outbox order _ (send-done _ wrote) (ne-eqb (first-no (with-fifteen leaving outbox sent-bytes)) 0 (λ e. h (sym full ∙ e)))
+      ∙ ap (λ (z : ℕ). record { outcome = refused-by z; memories = ms }) full)
 
   -- 9 TO 14 LET PASS
   served-six : first-no (first-six lims u r) ≡ 0 → Served lims k u r
@@ -146,7 +162,7 @@ module _ (lims : ℕ → Limits) (fit : Fit lims) (k : ℕ) (u : State) (label :
       let v = cell u (r .serial) in
       let q9 = yes-first 9 (not (eqb (r .to) (r .from))) _ (λ z. omega arith) h in
       let q10 = yes-first 10 (mem (r .serial) (u .darts) && eqb (u .number (r .serial)) (r .from)) _ (λ z. omega arith) (q9 .1) in
-      let q11 = yes-first 11 (leb (length v) (volume-limit lims (r .from) (r .to))) _ (λ z. omega arith) (q10 .1) in
+      let q11 = yes-first 11 (leb (length v) (lim .volume-darts)) _ (λ z. omega arith) (q10 .1) in
       let q12 = yes-first 12 (all (λ x. not (mem (th u x) v)) v) _ (λ z. omega arith) (q11 .1) in
       let q13 = yes-first 13 (pairs-once (vertex-pairs (nx u) (op u) v)) _ (λ z. omega arith) (q12 .1) in
       let q14 = yes-first 14 (ltb (u .count (r .from) + inner-faces u (r .from) v) (2 ^ 32)) _ (λ z. omega arith) (q13 .1) in
@@ -155,7 +171,7 @@ module _ (lims : ℕ → Limits) (fit : Fit lims) (k : ℕ) (u : State) (label :
         to-below = to-below;
         apart-blocks = λ e. eqb-false (r .to) (r .from) (not-true _ (q9 .0)) (sym e);
         start-mine = record { here = and-left (mem (r .serial) (u .darts)) _ (q10 .0); block = eqb-true (u .number (r .serial)) (r .from) (and-right (mem (r .serial) (u .darts)) _ (q10 .0)) };
-        few-darts = let a = leb-true (length v) (volume-limit lims (r .from) (r .to)) (q11 .0) in let b = fit .one-volume-limit (r .from) (r .to) in omega arith;
+        few-darts = leb-true (length v) (lim .volume-darts) (q11 .0);
         leaves = λ x m. not-true (mem (th u x) v) (all-in (λ x. not (mem (th u x) v)) v (q12 .0) x m);
         pairs = q13 .0;
         counter-fits = ltb-true _ _ (q14 .0);
@@ -215,40 +231,31 @@ module _ (lims : ℕ → Limits) (fit : Fit lims) (k : ℕ) (u : State) (label :
             → done lims ms (receive-step r sent-list) ≡ record { number = number-of (w .answer); memory = w .lent; sent = [] }
         one w e = unfold done in unfold called in (ap (λ (a : Result (Unit {0})). record { number = number-of (a .answer); memory = a .lent; sent = [] }) (receives-is ∙ e))
 
-    abbrev fits : Bool
-    fits = twenty-one lims u r
-
-    arriving-is : first-no arriving ≡ first-no ((21, fits) ∷ [])
+    arriving-is : first-no arriving ≡ first-no (last-two lims u r)
     arriving-is = receive-asks lims fit k u label I r S
 
-    whole-checks : first-no (request-checks lims u r) ≡ first-no ((21, fits) ∷ [])
-    whole-checks = ap first-no (checks-split lims u r) ∙ first-no-append (first-six lims u r) _ six refl
+    whole-checks : first-no (round-checks lims u r) ≡ first-no (last-two lims u r)
+    whole-checks = ap first-no (round-split lims u r) ∙ first-no-append (first-six lims u r) _ six refl
 
-    -- 21 refuses
-    refused-there : fits ≡ false → Kept lims k (round lims ms r outbox order) (undivided lims u r)
-    refused-there f =
-        let n21 : first-no ((21, fits) ∷ []) ≡ 21 = no-here 21 fits [] f in
-        let un = undivided-refuses lims u r 21 (whole-checks ∙ n21) (λ z. omega arith) in
-        let number : first-no arriving ≡ 21 = arriving-is ∙ n21 in
-        let stored-is = storing-refuses (lims (r .to)) arriving (image (words-of (lims (r .to))) there) (received there t₀) (λ z. let q = sym number ∙ z in omega arith) in
-        let round-is = round-untaken lims ms r outbox order _ send-served refl _ (receive-done _ stored-is) (ne-eqb (first-no arriving) 0 (λ z. let q = sym number ∙ z in omega arith)) in
-        let outcome : round lims ms r outbox order .outcome ≡ refused-by 21 = ap (λ (z : Round). z .outcome) round-is ∙ ap refused-by number in
-        record {
-          same-outcome = outcome ∙ ap (λ (z : Undivided). z .outcome) (sym un);
-          labels-now = label;
-          inv-now = rw un I;
-          memories-now =
-              ap (λ (z : Round). z .memories) round-is ∙ ap (set ms (r .to)) (sym memory-there) ∙ set-getD ms (r .to) []
-              ∙ ap (λ (z : Undivided). map (memory-of lims) (mesh-by k (z .state) label)) (sym un);
-          never-unfinished = λ e. not-unfinished 21 (sym outcome ∙ e);
-        }
+    -- 29 or 21 refuses
+    refused-there : first-no (last-two lims u r) ≢ 0 → Kept lims k (ended (round-checks lims u r)) (round lims ms r outbox order) (undivided lims u r)
+    refused-there h =
+        let no : first-no arriving ≢ 0 = λ z. h (sym arriving-is ∙ z) in
+        let stored-is = storing-refuses (lims (r .to)) arriving (image (words-of (lims (r .to))) there) (received there t₀) no in
+        kept-refused (first-no (last-two lims u r)) whole-checks h
+        (round-untaken lims ms r outbox order _ send-served refl _ (receive-done _ stored-is) (ne-eqb (first-no arriving) 0 no)
+        ∙ as-it-was (first-no arriving) (first-no (last-two lims u r)) arriving-is)
+      where
+        as-it-was : (m n : ℕ) → m ≡ n → _≡_ {A = Round} (record { outcome = refused-by m; memories = set ms (r .to) (image (words-of (lims (r .to))) there) }) (record { outcome = refused-by n; memories = ms })
+        as-it-was m n e = λ i. record { outcome = refused-by (e i); memories = (ap (set ms (r .to)) (sym memory-there) ∙ set-getD ms (r .to) []) i }
 
     -- the cell moves
-    moved-there : fits ≡ true → Kept lims k (round lims ms r outbox order) (undivided lims u r)
-    moved-there f =
-        let n0 : first-no ((21, fits) ∷ []) ≡ 0 = yes-then 21 fits [] f ∙ no-more in
+    moved-there : first-no (last-two lims u r) ≡ 0 → Kept lims k (ended (round-checks lims u r)) (round lims ms r outbox order) (undivided lims u r)
+    moved-there n0 =
+        let all-yes : first-no (round-checks lims u r) ≡ 0 = whole-checks ∙ n0 in
+        let has = yes-first 21 (has-room lims u r) [] (λ z. omega arith) (yes-first 29 _ ((21, has-room lims u r) ∷ []) (λ z. omega arith) n0 .1) .0 in
         let un : undivided lims u r ≡ record { outcome = finished; state = state-after lims fit k u label I r S } =
-        undivided-serves lims u r (whole-checks ∙ n0) ∙ ap (λ (z : State). record { outcome = finished; state = z }) (after-is u r) in
+        undivided-serves lims u r (refused-alike lims u r .1 all-yes) ∙ ap (λ (z : State). record { outcome = finished; state = z }) (after-is u r) in
         let stored-is = storing-serves (lims (r .to)) arriving (image (words-of (lims (r .to))) there) (received there t₀) (arriving-is ∙ n0) in
         let lent : image (words-of (lims (r .to))) (received there t₀) ≡ image (words-of (lims (r .to))) (block-by (state-after lims fit k u label I r S) (labels-after lims fit k u label I r S) (r .to)) =
         ap (image (words-of (lims (r .to)))) (received-is lims fit k u label I r S)
@@ -261,14 +268,18 @@ module _ (lims : ℕ → Limits) (fit : Fit lims) (k : ℕ) (u : State) (label :
         in
         let outcome : round lims ms r outbox order .outcome ≡ finished = ap (λ (z : Round). z .outcome) round-is in
         record {
-          same-outcome = outcome ∙ ap (λ (z : Undivided). z .outcome) (sym un);
+          outcome-is = outcome ∙ sym (ended-served (round-checks lims u r) all-yes);
+          refused-alike = ap is-refused outcome ∙ ap (λ (z : Undivided). is-refused (z .outcome)) (sym un);
           labels-now = labels-after lims fit k u label I r S;
-          inv-now = rw un (inv-after lims fit k u label I r S (leb-true _ _ f));
+          inv-now = rw un (inv-after lims fit k u label I r S (leb-true _ _ has));
           memories-now = ap (λ (z : Round). z .memories) round-is ∙ ap (λ (z : Undivided). map (memory-of lims) (mesh-by k (z .state) (labels-after lims fit k u label I r S))) (sym un);
           never-unfinished = λ e. finished-not (sym outcome ∙ e);
         }
 
-  pub keeps : Enough lims ms r outbox → List·Permᴰ order (last-steps r (sent-messages lims ms r outbox)) → Kept lims k (round lims ms r outbox order) (undivided lims u r)
+  pub keeps : Enough lims ms r outbox → List·Permᴰ order (last-steps r (sent-messages lims ms r outbox))
+      → Kept lims k (ended (round-checks lims u r)) (round lims ms r outbox order) (undivided lims u r)
   keeps enough any = by-cases (eqb (first-no (first-six lims u r)) 0)
-      (λ e. let six = eqb-true (first-no (first-six lims u r)) 0 e in by-cases (twenty-one lims u r) (moved-there six enough any) (refused-there six enough any))
+      (λ e. let six = eqb-true (first-no (first-six lims u r)) 0 e in by-cases (eqb (first-no (last-two lims u r)) 0)
+      (λ z. moved-there six enough any (eqb-true _ 0 z))
+      (λ z. refused-there six enough any (eqb-false _ 0 z)))
       (λ e. refused-six (eqb-false (first-no (first-six lims u r)) 0 e))

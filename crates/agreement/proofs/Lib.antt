@@ -1,6 +1,7 @@
 pub mod Described
 pub mod BlockSound
 pub mod MeshSound
+pub mod Numbers
 pub mod MovedCell
 pub mod NewLabels
 pub mod AfterMove

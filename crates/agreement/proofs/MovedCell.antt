@@ -12,7 +12,7 @@ use borrow.Author.Tests.{eqb-true, eq-eqb, ne-eqb, le-leb}
 use Rattle.model.specs.Lists.{all, keep, mem, ascending, Check, first-no}
 use Rattle.model.specs.Values.{Label, Dart, Limits}
 use Rattle.model.specs.Cells.{around, cycle, volume, vertex, faces, start-of, serials, next-in, opposite-in, third-at, volume-in, faces-in}
-use Rattle.model.specs.Sound.{Fit, volume-limit}
+use Rattle.model.specs.Sound.{Fit}
 use Rattle.model.specs.Departure.{is-sewn-into, is-sewn-out-of, sewn-faces, departure-checks}
 use Rattle.model.specs.Links.{pairs-once, vertex-pairs}
 use Rattle.model.specs.Runs.{Request}
@@ -23,6 +23,7 @@ use Rattle.laws.proofs.Orbits.{iter, around-path, Cyc}
 use Rattle.laws.proofs.Tests.{by-cases, and-left, and-right}
 use Rattle.laws.proofs.Volumes.{Volume, volume-is}
 use Rattle.agreement.proofs.Described.{members, block-by, Map, Inv, Mine, mine-member, member-mine, darts-by, held-by, held-mine, next-at, opposite-at, third-is, in-order-by, kind-free, kind-sewn, kind-critical, by-kind, next-mine, opposite-mine}
+use Rattle.agreement.proofs.Numbers.{first-six}
 
 -- what is known of the cell v of a dart s in block i
 pub record Cell (u : State) (i s : ℕ) (v : List ℕ) : Type 0 where
@@ -209,24 +210,7 @@ module _ (lims : ℕ → Limits) (fit : Fit lims) (k : ℕ) (u : State) (label :
     unfolding sewn-faces
     sewn-same = rw (volume-same, faces-same) (keep-each _ is-inner (faces (nx u) v) face-starts out-same)
 
--- THE QUESTIONS. 9 to 14, as the undivided run puts them
-abbrev pub first-six : (ℕ → Limits) → State → Request → List Check
-first-six lims u r =
-    let i = r .from in
-    let j = r .to in
-    let v = cell u (r .serial) in
-    (9, not (eqb j i)) ∷ (10, mem (r .serial) (u .darts) && eqb (u .number (r .serial)) i) ∷ (11, leb (length v) (volume-limit lims i j))
-    ∷ (12, all (λ x. not (mem (th u x) v)) v)
-    ∷ (13, pairs-once (vertex-pairs (nx u) (op u) v))
-    ∷ (14, ltb (u .count i + inner-faces u i v) (2 ^ 32)) ∷ []
-
-abbrev pub twenty-one : (ℕ → Limits) → State → Request → Bool
-twenty-one lims u r = leb (length (members u (r .to)) + length (cell u (r .serial))) (lims (r .to) .block-darts)
-
-pub checks-split : (lims : ℕ → Limits) (u : State) (r : Request) → request-checks lims u r ≡ first-six lims u r ++ (21, twenty-one lims u r) ∷ []
-unfolding request-checks
-checks-split lims u r = refl
-
+-- THE QUESTIONS, 9 to 14
 module _ (lims : ℕ → Limits) (fit : Fit lims) (k : ℕ) (u : State) (label : ℕ → Label) (I : Inv lims k u label) (r : Request) (i-below : r .from < k) (j-below : r .to < k) where
   abbrev i : ℕ
   i = r .from
@@ -237,9 +221,6 @@ module _ (lims : ℕ → Limits) (fit : Fit lims) (k : ℕ) (u : State) (label :
   abbrev s : ℕ
   s = r .serial
 
-  one-limit : volume-limit lims i j ≡ lims i .volume-darts
-  one-limit = let e = fit .one-volume-limit i j in omega arith
-
   nine-same : (leb j 15 && not (eqb j i)) ≡ not (eqb j i)
   nine-same = let few = I .few-blocks in rw (le-leb j 15 (omega arith))
 
@@ -248,7 +229,7 @@ module _ (lims : ℕ → Limits) (fit : Fit lims) (k : ℕ) (u : State) (label :
   unfolding departure-checks block-by inner-faces
   checks-mine m =
       let vs = volume-same lims fit k u label I i i-below s m in
-      rw (nine-same, held-by u label i s, one-limit, vs, twelve-same lims fit k u label I i i-below s m, pairs-same lims fit k u label I i i-below s m, sewn-same lims fit k u label I i i-below s m)
+      rw (nine-same, held-by u label i s, vs, twelve-same lims fit k u label I i i-below s m, pairs-same lims fit k u label I i i-below s m, sewn-same lims fit k u label I i i-below s m)
 
   -- elsewhere 10 is answered no
   checks-other : (mem s (u .darts) && eqb (u .number s) i) ≡ false → first-no (departure-checks (lims i .volume-darts) (block-by u label i) j s) ≡ first-no (first-six lims u r)

@@ -9,7 +9,7 @@ use lib.ListN.{length, length-map}
 use borrow.Author.Tests.{eq-eqb, lt-ltb, le-leb}
 use Rattle.model.specs.Lists.{first-no, mem}
 use Rattle.model.specs.Values.{Label, Limits, Block}
-use Rattle.model.specs.Sound.{Fit, sound-block, volume-limit}
+use Rattle.model.specs.Sound.{Fit, sound-block}
 use Rattle.model.specs.Layouts.{framed}
 use Rattle.model.specs.Messages.{Transfer, size-all, transfer, a-transfer, message-in}
 use Rattle.model.specs.Departure.{departure-checks}
@@ -17,11 +17,12 @@ use Rattle.model.specs.Arrival.{parts-right, addressed, receive-checks}
 use Rattle.model.specs.Runs.{Request}
 use Rattle.model.specs.UndividedRun.{State, th, cell}
 use Rattle.laws.proofs.Members.{all-from}
-use Rattle.laws.proofs.Tests.{and-intro, yes-then, no-more, not-equal}
+use Rattle.laws.proofs.Tests.{no-here, by-cases, and-intro, yes-then, no-more, not-equal}
 use Rattle.agreement.proofs.BlockSound.{block-sound}
 use Rattle.agreement.proofs.Described.{dart-by, members, block-by, Inv, darts-by}
 use Rattle.agreement.proofs.Moved.{Served}
-use Rattle.agreement.proofs.MovedCell.{first-six, questions-agree}
+use Rattle.agreement.proofs.MovedCell.{questions-agree}
+use Rattle.agreement.proofs.Numbers.{first-six, last-two}
 use Rattle.agreement.proofs.Parts.{size-is, twenty}
 use Rattle.agreement.proofs.Passes.{seventeen, eighteen, nineteen}
 use Rattle.agreement.proofs.Sent.{transfer-by, transfer-is}
@@ -53,7 +54,7 @@ module _ (lims : ℕ → Limits) (fit : Fit lims) (k : ℕ) (u : State) (label :
       six =
           yes-then 9 _ _ (not-equal (r .to) (r .from) (λ e. S .apart-blocks (sym e)))
           ∙ yes-then 10 _ _ (and-intro (S .start-mine .here) (eq-eqb (u .number (r .serial)) (r .from) (S .start-mine .block)))
-          ∙ yes-then 11 _ _ (le-leb (length v₆) (volume-limit lims (r .from) (r .to)) (let a = S .few-darts in let c = fit .one-volume-limit (r .from) (r .to) in omega arith))
+          ∙ yes-then 11 _ _ (le-leb (length v₆) (lim₆ .volume-darts) (S .few-darts))
           ∙ yes-then 12 _ _ (all-from (λ x. not (mem (th u x) v₆)) v₆ (λ x m. ap not (S .leaves x m)))
           ∙ yes-then 13 _ _ (S .pairs)
           ∙ yes-then 14 _ _ (lt-ltb _ _ (S .counter-fits)) ∙ no-more
@@ -71,17 +72,21 @@ module _ (lims : ℕ → Limits) (fit : Fit lims) (k : ℕ) (u : State) (label :
   transfer-read = transfer-back t₆ transfer-ok transfer-short
 
   -- THE RECEIVER'S QUESTIONS
-  pub receive-asks : first-no (receive-checks (lims (r .to)) (block-by u label (r .to)) (a-transfer t₆))
-      ≡ first-no ((21, leb (length (members u (r .to)) + length v₆) (lims (r .to) .block-darts)) ∷ [])
+  pub receive-asks : first-no (receive-checks (lims (r .to)) (block-by u label (r .to)) (a-transfer t₆)) ≡ first-no (last-two lims u r)
   unfolding receive-checks block-by
-  receive-asks = yes-then 17 _ _ (seventeen-by) ∙ yes-then 18 _ _ (eighteen lims fit k u label I r S) ∙ yes-then 19 _ _ (nineteen lims fit k u label I r S) ∙ yes-then 20 _ _ twenty-by
-      ∙ ap (λ (n : ℕ). first-no ((21, leb n (lims (r .to) .block-darts)) ∷ [])) sizes-same
+  receive-asks = yes-then 17 _ _ (seventeen-by) ∙ by-cases (leb (length v₆) (lims (r .to) .volume-darts))
+      (λ t. yes-then 29 _ _ (few-same ∙ t) ∙ yes-then 18 _ _ (eighteen lims fit k u label I r S) ∙ yes-then 19 _ _ (nineteen lims fit k u label I r S) ∙ yes-then 20 _ _ twenty-by
+      ∙ ap (λ (n : ℕ). first-no ((21, leb n (lims (r .to) .block-darts)) ∷ [])) sizes-same ∙ sym (yes-then 29 _ _ t))
+      (λ t. no-here 29 _ _ (few-same ∙ t) ∙ sym (no-here 29 _ _ t))
     where
       seventeen-by : addressed (t₆ .from) (t₆ .to) (record { number = r .to; counter = u .count (r .to); darts = darts-by u label (r .to) }) ≡ true
       seventeen-by = unfold block-by in (seventeen lims fit k u label I r S)
 
       twenty-by : parts-right (record { number = r .to; counter = u .count (r .to); darts = darts-by u label (r .to) }) t₆ ≡ true
       twenty-by = unfold block-by in (twenty lims fit k u label I r S)
+
+      few-same : leb (size-all (t₆ .faces)) (lims (r .to) .volume-darts) ≡ leb (length v₆) (lims (r .to) .volume-darts)
+      few-same = ap (λ (n : ℕ). leb n (lims (r .to) .volume-darts)) (size-is lims fit k u label I r S)
 
       sizes-same : length (darts-by u label (r .to)) + size-all (t₆ .faces) ≡ length (members u (r .to)) + length v₆
       sizes-same = rw (length-map (members u (r .to)) (dart-by u label), size-is lims fit k u label I r S)

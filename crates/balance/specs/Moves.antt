@@ -3,14 +3,14 @@ use mathlib.Core.Path.{_≡_}
 use mathlib.Core.Bool.{Bool, true, false, cond, _&&_}
 use mathlib.Core.List.{List, [], _∷_, map}
 use mathlib.Core.Logic.{_⊎_}
-use Prim.Native.Nat.{ℕ, _-_, _≤_, _<_}
+use Prim.Native.Nat.{ℕ, _-_, _≤_, _<_, min}
 use lib.Dec.{leb, ltb, eqb}
 use lib.ListN.{length, getD, drop}
 use lib.IntN.{ℤ, pos, subℕ}
 use Rattle.model.specs.Lists.{keep, tab, concat-map, first-no}
-use Rattle.model.specs.Values.{Block, all-rack, message-darts}
-use Rattle.model.specs.Sound.{block-at}
-use Rattle.model.specs.Image.{column, block-in, holds-block}
+use Rattle.model.specs.Values.{Block, limits-in, message-darts}
+use Rattle.model.specs.Sound.{block-at, volume-limit}
+use Rattle.model.specs.Image.{column, count-in, block-in, holds-block}
 use Rattle.model.specs.Departure.{departure-checks}
 use Rattle.model.specs.Balance.{Oracle, Move, NextMove, move, blocked, picked, counts, recipients, can-move}
 use Rattle.cells.specs.Places.{Clear}
@@ -100,16 +100,21 @@ surplus-by cs k mean i = cond (ltb i k) (subℕ (getD cs i 0) mean) (pos 0)
 abbrev pub picked-count : Oracle → List ℕ → ℕ → ℕ
 picked-count o mesh i = getD (counts o (mesh-in mesh)) i 0
 
+-- how many darts a volume may have that goes from block d to block r: 11 reads the limits of both, 21 what is left of the room
+abbrev pub left-for : ℕ → List ℕ → ℕ → ℕ → ℕ
+left-for viewers mesh d r = min (volume-limit (limits-in viewers) d r) (limits-in viewers r .block-darts - count-in (part mesh r))
+
 -- the moves from block d to block r
-abbrev pub moves-between : Oracle → List ℕ → ℕ → ℕ → List Move
-moves-between o mesh d r = keep (can-move all-rack (mesh-in mesh)) (map (λ s. record { donor = d; recipient = r; serial = s }) (picked o (block-at (mesh-in mesh) d .darts)))
+abbrev pub moves-between : ℕ → Oracle → List ℕ → ℕ → ℕ → List Move
+moves-between viewers o mesh d r =
+    keep (can-move (limits-in viewers) (mesh-in mesh)) (map (λ s. record { donor = d; recipient = r; serial = s }) (picked o (block-at (mesh-in mesh) d .darts)))
 
 -- from block d to any that it may give to
-abbrev pub moves-from : Oracle → List ℕ → ℕ → List Move
-moves-from o mesh d = concat-map (moves-between o mesh d) (recipients (counts o (mesh-in mesh)) (picked-count o mesh d))
+abbrev pub moves-from : ℕ → Oracle → List ℕ → ℕ → List Move
+moves-from viewers o mesh d = concat-map (moves-between viewers o mesh d) (recipients (counts o (mesh-in mesh)) (picked-count o mesh d))
 
-abbrev pub all-moves : Oracle → List ℕ → List Move
-all-moves o mesh = concat-map (moves-from o mesh) (tab (λ b. b) (length (counts o (mesh-in mesh))))
+abbrev pub all-moves : ℕ → Oracle → List ℕ → List Move
+all-moves viewers o mesh = concat-map (moves-from viewers o mesh) (tab (λ b. b) (length (counts o (mesh-in mesh))))
 
 -- what was found of block d: a move, or none and so blocked
 abbrev pub move-found : ℕ → Found → NextMove

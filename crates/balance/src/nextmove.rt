@@ -1,7 +1,7 @@
 // Next move: questions 1, 2 and 23 to 28 of a whole mesh and an oracle, in their order, then the move that levels the blocks, the mean and the surpluses.
 ghost use mathlib.Core.Path.{_≡_};
 ghost use mathlib.Core.Option.{none};
-ghost use Rattle.model.specs.Values.{all-rack};
+ghost use Rattle.model.specs.Values.{limits-in};
 ghost use Rattle.model.specs.Calls as calls;
 ghost use Rattle.answers.specs.Answers.{question};
 ghost use Rattle.memory.specs.Point.{patterns};
@@ -43,25 +43,25 @@ fn refused(q: Refusal) -> Balance
 
 // The next move of a mesh by an oracle. 1, 2 and 23 to 27: the questions of the mesh check. 28: are the oracle's numbers right? The scratch
 // is afterwards as it was.
-pub fn next_move(mesh: &[u64], o: Oracle, scratch: &mut [u64]) -> Balance
-    ensures { λ r. ⌜ GivesBalance (calls.next-move all-rack (now (mesh .entry)) (oracle-of o) (now (scratch .entry))) r (now (scratch .exit)) ⌝ }
+pub fn next_move(mesh: &[u64], viewers: u32, o: Oracle, scratch: &mut [u64]) -> Balance
+    ensures { λ r. ⌜ GivesBalance (calls.next-move (limits-in viewers) (now (mesh .entry)) (oracle-of o) (now (scratch .entry))) r (now (scratch .exit)) ⌝ }
 {
-    match checkmesh::mesh_asked(mesh, scratch) {
+    match checkmesh::mesh_asked(mesh, viewers, scratch) {
         Answer::Refused(q) => refused(q),
         Answer::Served => {
             if !oracle::oracle_right(o) {
                 return refused(Refusal::OracleWrong);
             }
-            crate::next_of(mesh, o)
+            crate::next_of(mesh, viewers, o)
         }
     }
 }
 
 // The answer where there is no oracle: a no to 28 in its turn.
-fn without_oracle(mesh: &[u64], scratch: &mut [u64]) -> Balance
-    ensures { λ r. ⌜ GivesBalance (calls.next-move-of all-rack (now (mesh .entry)) none (now (scratch .entry))) r (now (scratch .exit)) ⌝ }
+fn without_oracle(mesh: &[u64], viewers: u32, scratch: &mut [u64]) -> Balance
+    ensures { λ r. ⌜ GivesBalance (calls.next-move-of (limits-in viewers) (now (mesh .entry)) none (now (scratch .entry))) r (now (scratch .exit)) ⌝ }
 {
-    match checkmesh::mesh_asked(mesh, scratch) {
+    match checkmesh::mesh_asked(mesh, viewers, scratch) {
         Answer::Refused(q) => refused(q),
         Answer::Served => refused(Refusal::OracleWrong),
     }
@@ -70,22 +70,23 @@ fn without_oracle(mesh: &[u64], scratch: &mut [u64]) -> Balance
 // The same with the oracle by numbers: 0 every volume, 1 the box from low to high, 2 the plane on an axis at low's x; there is no other.
 pub fn next_move_by_number(
     mesh: &[u64],
+    viewers: u32,
     number: u32,
     axis: u32,
     low: Point,
     high: Point,
     scratch: &mut [u64],
 ) -> Balance
-    ensures { λ r. ⌜ GivesBalance (calls.next-move-by-number all-rack (now (mesh .entry)) number axis (patterns low) (patterns high) (now (scratch .entry))) r (now (scratch .exit)) ⌝ }
+    ensures { λ r. ⌜ GivesBalance (calls.next-move-by-number (limits-in viewers) (now (mesh .entry)) number axis (patterns low) (patterns high) (now (scratch .entry))) r (now (scratch .exit)) ⌝ }
 {
     if number == 0 {
-        return next_move(mesh, Oracle::Every, scratch);
+        return next_move(mesh, viewers, Oracle::Every, scratch);
     }
     if number == 1 {
-        return next_move(mesh, Oracle::Box(low, high), scratch);
+        return next_move(mesh, viewers, Oracle::Box(low, high), scratch);
     }
     if number == 2 {
-        return next_move(mesh, Oracle::Plane(axis as u64, low.x), scratch);
+        return next_move(mesh, viewers, Oracle::Plane(axis as u64, low.x), scratch);
     }
-    without_oracle(mesh, scratch)
+    without_oracle(mesh, viewers, scratch)
 }

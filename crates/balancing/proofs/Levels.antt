@@ -8,12 +8,12 @@ use lib.Dec.{leb}
 use lib.ListN.{length, getD, length-map}
 use borrow.Author.Tests.{leb-false, not-true}
 use Rattle.model.specs.Lists.{all, keep}
-use Rattle.model.specs.Values.{Block, Limits, all-rack}
+use Rattle.model.specs.Values.{Block, Limits, limits-in}
 use Rattle.model.specs.Sound.{Fit}
 use Rattle.model.specs.Balance.{Oracle, picked, counts, Move, NextMove, level, blocked, move, may-give, candidates, can-move, first-or, is-level, next-of}
 use Rattle.model.specs.Demands.{LevelMeans}
 use Rattle.laws.proofs.Tests.{all-at}
-use Rattle.agreement.proofs.Agreement.{rack-fits}
+use Rattle.agreement.proofs.Agreement.{limits-fit}
 use Rattle.balancing.proofs.Chosen.{next-answered}
 
 level-only : (b : Bool) (l : List Move) → first-or (cond b level blocked) l ≡ level → b ≡ true
@@ -38,6 +38,6 @@ level-means lims fit m o scratch b sound e f i j hi hj =
     let n = length-map m (λ b. length (picked o (b .darts))) in
     within-one (counts o m) (said-level lims o m (sym (next-answered lims fit m o scratch b sound e) ∙ f)) i j (omega (arith, n, hi)) (omega (arith, n, hj))
 
--- on the rack
-pub rack-level-means : LevelMeans all-rack
-rack-level-means = level-means all-rack rack-fits
+-- with every set of viewers
+pub mesh-level-means : (viewers : ℕ) → LevelMeans (limits-in viewers)
+mesh-level-means viewers = level-means (limits-in viewers) (limits-fit viewers)

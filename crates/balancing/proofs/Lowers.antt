@@ -10,16 +10,16 @@ use Prim.Native.Nat.{ℕ, _+_, _<_, _≤_}
 use native.Mathlib.Omega.{arith}
 use lib.Dec.{leb, eqb}
 use lib.ListN.{length, getD, length-map}
-use borrow.Author.Tests.{eqb-true, eqb-false, leb-true, not-true}
+use borrow.Author.Tests.{eqb-true, eqb-false, leb-true, le-leb, not-true}
 use Rattle.model.specs.Lists.{tab, first-no}
-use Rattle.model.specs.Values.{Label, Block, Limits, all-rack}
+use Rattle.model.specs.Values.{Label, Block, Limits, limits-in}
 use Rattle.model.specs.Cells.{volume-in}
 use Rattle.model.specs.Sound.{Sound, Fit, block-at, volume-limit}
 use Rattle.model.specs.Image.{memory-of}
 use Rattle.model.specs.Departure.{departure-checks}
 use Rattle.model.specs.Balance.{Oracle, picked, counts, squared-counts, Move, move, can-move, next-of}
 use Rattle.model.specs.Runs.{finished}
-use Rattle.model.specs.UndividedRun.{State, start, cell, inner-faces, Undivided, undivided}
+use Rattle.model.specs.UndividedRun.{State, start, cell, inner-faces, has-room, Undivided, undivided, round-checks}
 use Rattle.model.specs.DividedRun.{round}
 use Rattle.model.specs.Demands.{request-of, Answers, Carried-out, MoveLowers}
 use Rattle.laws.proofs.Members.{In, keep-in}
@@ -27,16 +27,28 @@ use Rattle.laws.proofs.Tables.{length-tab, getD-tab}
 use Rattle.laws.proofs.Tests.{and-left, and-right, yes-then, yes-first, no-more, first-no-append}
 use Rattle.theory.proofs.MeshLaws.{mesh-parts}
 use Rattle.agreement.proofs.AfterMove.{after, after-is}
-use Rattle.agreement.proofs.Agreement.{rack-fits}
+use Rattle.agreement.proofs.Agreement.{limits-fit}
 use Rattle.agreement.proofs.Begins.{start-label, described, start-inv}
 use Rattle.agreement.proofs.Described.{members, block-by, mesh-by, dart-by, Inv, Mine, member-mine}
-use Rattle.agreement.proofs.Keeps.{keeps, undivided-serves}
+use Rattle.agreement.proofs.Keeps.{keeps, undivided-serves, ended-served}
 use Rattle.agreement.proofs.MeshSound.{block-at-by, mesh-sound}
-use Rattle.agreement.proofs.MovedCell.{volume-same, first-six, twenty-one, checks-split, questions-agree}
+use Rattle.agreement.proofs.MovedCell.{volume-same, questions-agree}
+use Rattle.agreement.proofs.Numbers.{first-six, round-split, refused-alike}
 use Rattle.balancing.proofs.Chosen.{next-answered, Candidate, chosen}
 use Rattle.balancing.proofs.Picked.{stands, count-by, picked-are, counts-are, donor-loses, recipient-gains, others-stay}
 use Rattle.balancing.proofs.Shapes.{counts-same}
 use Rattle.balancing.proofs.Sums.{Given, squares-fall}
+
+-- 9 TO 14 with a limit: they hold with a wider one, and the volume keeps to it
+module _ (most : ℕ) (b : Block) (j s : ℕ) (asks : first-no (departure-checks most b j s) ≡ 0) where
+  eleven : (leb (length (volume-in (b .darts) s)) most ≡ true) × ((wide : ℕ) → most ≤ wide → first-no (departure-checks wide b j s) ≡ 0)
+  unfolding departure-checks
+  eleven =
+      let q9 = yes-first 9 _ _ (λ z. omega arith) asks in
+      let q10 = yes-first 10 _ _ (λ z. omega arith) (q9 .1) in
+      let q11 = yes-first 11 _ _ (λ z. omega arith) (q10 .1) in
+      let l = leb-true (length (volume-in (b .darts) s)) most (q11 .0) in
+      (q11 .0, λ wide h. yes-then 9 _ _ (q9 .0) ∙ yes-then 10 _ _ (q10 .0) ∙ yes-then 11 _ _ (le-leb _ wide (omega arith)) ∙ q11 .1)
 
 -- A MOVE THAT IS CHOSEN in a described mesh
 module _ (lims : ℕ → Limits) (fit : Fit lims) (k : ℕ) (u : State) (label : ℕ → Label) (I : Inv lims k u label) (o : Oracle) (t : Move) where
@@ -69,14 +81,8 @@ module _ (lims : ℕ → Limits) (fit : Fit lims) (k : ℕ) (u : State) (label :
     mine : Mine u d s
     standing : stands o u s ≡ true
     six : first-no (first-six lims u (request-of t)) ≡ 0
-    fits : twenty-one lims u (request-of t) ≡ true
-
-  one-limit : volume-limit lims d r ≡ lims d .volume-darts
-  one-limit = let e = fit .one-volume-limit d r in omega arith
-
-  asks-same : d < k → first-no (departure-checks (volume-limit lims d r) (block-at mesh d) r s) ≡ first-no (departure-checks (lims d .volume-darts) (block-by u label d) r s)
-  asks-same h = ap (λ (n : ℕ). first-no (departure-checks n (block-at mesh d) r s)) one-limit
-      ∙ ap (λ (b : Block). first-no (departure-checks (lims d .volume-darts) b r s)) (block-at-by k u label d h)
+    few : length v ≤ lims r .volume-darts
+    fits : has-room lims u (request-of t) ≡ true
 
   size-same : r < k → length (block-at mesh r .darts) ≡ length (members u r)
   unfolding block-by
@@ -111,7 +117,12 @@ module _ (lims : ℕ → Limits) (fit : Fit lims) (k : ℕ) (u : State) (label :
         two-more = let g = leb-true (getD (tab c k) r 0 + 2) (getD (tab c k) d 0) (q .gives) in two-of g (getD-tab c k r 0 rk) (getD-tab c k d 0 dk);
         mine = w .0;
         standing = w .1;
-        six = sym (questions-agree lims fit k u label I (request-of t) dk rk) ∙ sym (asks-same dk) ∙ asks;
+        six = sym (questions-agree lims fit k u label I (request-of t) dk rk)
+            ∙ ap (λ (b : Block). first-no (departure-checks (lims d .volume-darts) b r s)) (sym (block-at-by k u label d dk))
+            ∙ eleven (volume-limit lims d r) (block-at mesh d) r s asks .1 (lims d .volume-darts) (omega arith);
+        few =
+            let l : length (volume-in (block-at mesh d .darts) s) ≤ volume-limit lims d r = leb-true _ _ (eleven (volume-limit lims d r) (block-at mesh d) r s asks .0) in
+            let e = ap length (volume-is-cell dk (w .0)) in omega (arith, l, e);
         fits = ap (λ (x : ℕ). leb (x + length v) (lims r .block-darts)) (sym (size-same rk))
             ∙ ap (λ (l : List ℕ). leb (length (block-at mesh r .darts) + length l) (lims r .block-darts)) (sym (volume-is-cell dk (w .0))) ∙ room;
       }
@@ -125,9 +136,13 @@ module _ (lims : ℕ → Limits) (fit : Fit lims) (k : ℕ) (u : State) (label :
     apart : d ≢ r
     apart e = eqb-false r d (not-true _ (yes-first 9 (not (eqb r d)) _ (λ z. omega arith) (K .six) .0)) (sym e)
 
+    all-yes : first-no (round-checks lims u (request-of t)) ≡ 0
+    all-yes = ap first-no (round-split lims u (request-of t)) ∙ first-no-append (first-six lims u (request-of t)) _ (K .six) refl
+        ∙ yes-then 29 _ _ (le-leb _ _ (K .few)) ∙ yes-then 21 _ [] (K .fits) ∙ no-more
+
     serves : undivided lims u (request-of t) ≡ record { outcome = finished; state = u' }
     serves = undivided-serves lims u (request-of t)
-        (ap first-no (checks-split lims u (request-of t)) ∙ first-no-append (first-six lims u (request-of t)) _ (K .six) refl ∙ yes-then 21 _ [] (K .fits) ∙ no-more)
+        (refused-alike lims u (request-of t) .1 all-yes)
         ∙ ap (λ (z : State). record { outcome = finished; state = z }) (after-is u (request-of t))
 
     -- of any blocks with the images of the mesh that is described afterwards
@@ -161,7 +176,7 @@ module _ (lims : ℕ → Limits) (fit : Fit lims) (k : ℕ) (u : State) (label :
       let K = known e in
       let kept = keeps lims fit k u label I (request-of t) (K .donor-below) (K .recipient-below) outbox order enough any in
       let I' : Inv lims k u' (kept .labels-now) = subst (λ (w : Undivided). Inv lims k (w .state) (kept .labels-now)) (serves K) (kept .inv-now) in (
-        kept .same-outcome ∙ ap (λ (w : Undivided). w .outcome) (serves K),
+        kept .outcome-is ∙ ended-served _ (all-yes K),
         λ after f. given-after K (kept .labels-now) I' after (sym f ∙ kept .memories-now ∙ ap (λ (w : Undivided). map (memory-of lims) (mesh-by k (w .state) (kept .labels-now))) (serves K)),
       )
 
@@ -182,6 +197,6 @@ module _ (lims : ℕ → Limits) (fit : Fit lims) where
       let w = move-gives m o t sound a outbox order enough any in
       (w .0, λ after e. squares-fall (w .1 after e))
 
--- on the rack
-pub rack-move-lowers : MoveLowers all-rack
-rack-move-lowers = move-lowers all-rack rack-fits
+-- with every set of viewers
+pub mesh-move-lowers : (viewers : ℕ) → MoveLowers (limits-in viewers)
+mesh-move-lowers viewers = move-lowers (limits-in viewers) (limits-fit viewers)

@@ -10,7 +10,7 @@ use lib.Dec.{leb}
 use lib.ListN.{length, getD, length-append, length-map}
 use borrow.Author.Tests.{leb-true}
 use Rattle.model.specs.Lists.{all, keep, tab, mem, distinct}
-use Rattle.model.specs.Values.{Label, Dart, Block, Limits, all-rack}
+use Rattle.model.specs.Values.{Label, Dart, Block, Limits, limits-in}
 use Rattle.model.specs.Cells.{dart-at, volume-in, volume-starts}
 use Rattle.model.specs.Sound.{Sound, Fit}
 use Rattle.model.specs.Balance.{Oracle, picks, picked, counts, differences, Move}
@@ -18,7 +18,7 @@ use Rattle.model.specs.UndividedRun.{State, op, start, cell}
 use Rattle.model.specs.Demands.{Answers, Ends-within, MovesEnd}
 use Rattle.laws.proofs.Members.{In, all-in, keep-in, keep-le, append-in, keep-ascending, ascending-distinct, distinct-append, distinct-fewer, distinct-map, map-in}
 use Rattle.laws.proofs.Tables.{map-tab}
-use Rattle.agreement.proofs.Agreement.{rack-fits}
+use Rattle.agreement.proofs.Agreement.{limits-fit}
 use Rattle.agreement.proofs.Begins.{start-label, described, start-inv}
 use Rattle.agreement.proofs.Described.{members, block-by, mesh-by, Map, Inv, Mine, mine-member, member-mine, darts-by, serials-are, opposite-mine}
 use Rattle.agreement.proofs.MovedCell.{cell-is, volume-same}
@@ -136,6 +136,6 @@ module _ (lims : ℕ → Limits) (fit : Fit lims) where
   pub moves-end : MovesEnd lims
   moves-end m o sound = (ends (differences o m / 2) m o sound (omega arith), omega (arith, differences-few lims fit m o sound))
 
--- on the rack
-pub rack-moves-end : MovesEnd all-rack
-rack-moves-end = moves-end all-rack rack-fits
+-- with every set of viewers
+pub mesh-moves-end : (viewers : ℕ) → MovesEnd (limits-in viewers)
+mesh-moves-end viewers = moves-end (limits-in viewers) (limits-fit viewers)

@@ -110,12 +110,13 @@ fn moved(b: Balance) {
     show::newline();
 }
 
-// By an oracle's number and an axis; its points are six floats, least significant byte first.
+// By an oracle's number, an axis and the viewers, none where the line has no number more; its points are six floats, least significant byte first.
 fn move_by(line: &[u8], mesh: &[u64], points: &[u8], scratch: &mut [u64]) -> Balance {
     let low = vectors::point(points, 0);
     let high = vectors::point(points, 24);
     nextmove::next_move_by_number(
         mesh,
+        line::small(line, 5),
         line::small(line, 3),
         line::small(line, 4),
         low,

@@ -5,19 +5,20 @@ use mathlib.Core.List.{List, map}
 use Prim.Native.Nat.{ℕ}
 use Rattle.model.specs.Lists.{all}
 use Rattle.model.specs.Sound.{blocks-right, serials-distinct, labels-paired, points-across, makers-right}
-use Rattle.model.specs.Image.{block-in, holds-block}
+use Rattle.model.specs.Image.{block-in}
 use Rattle.model.specs.Calls.{memories, mesh-lent, scratch-entries}
+use Rattle.mesh.specs.Parts.{sound-memory}
 
 -- 1, 2, 23 and 24
-pub record Begun (m s : List ℕ) : Type 0 where
+pub record Begun (viewers : ℕ) (m s : List ℕ) : Type 0 where
   pub lent : mesh-lent scratch-entries m s ≡ true
-  pub images : all (λ b. holds-block b) (memories m) ≡ true
+  pub images : all (sound-memory viewers) (memories m) ≡ true
   pub numbered : blocks-right (map block-in (memories m)) ≡ true
   pub serials : serials-distinct (map block-in (memories m)) ≡ true
 
 -- and 25 to 27
-pub record Right (m s : List ℕ) : Type 0 where
-  pub begun : Begun m s
+pub record Right (viewers : ℕ) (m s : List ℕ) : Type 0 where
+  pub begun : Begun viewers m s
   pub labels : labels-paired (map block-in (memories m)) ≡ true
   pub points : points-across (map block-in (memories m)) ≡ true
   pub makers : makers-right (map block-in (memories m)) ≡ true

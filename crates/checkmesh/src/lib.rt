@@ -1,20 +1,20 @@
 // Check mesh: questions 1, 2 and 23 to 27 of a whole mesh, in their order.
 ghost use mathlib.Core.Path.{_≡_};
-ghost use Rattle.model.specs.Values.{rack};
+ghost use Rattle.model.specs.Values.{limits-in};
 ghost use Rattle.model.specs.Calls.{whole-mesh-checks, check-mesh};
 ghost use Rattle.answers.specs.Answers.{answer-of, answered, Gives};
 use answers::Answer;
 use answers::Refusal;
 use pairing::Pairing;
 
-// Questions 1, 2 and 23 to 27 alone.
-pub fn mesh_asked(mesh: &[u64], scratch: &mut [u64]) -> Answer
-    ensures { λ r. ⌜ (answer-of r ≡ answered (whole-mesh-checks (λ _. rack) (now (mesh .entry)) (now (scratch .entry)))) × (now (scratch .exit) ≡ now (scratch .entry)) ⌝ }
+// Questions 1, 2 and 23 to 27 alone. Bit b of `viewers` says that the block numbered b is a viewer's.
+pub fn mesh_asked(mesh: &[u64], viewers: u32, scratch: &mut [u64]) -> Answer
+    ensures { λ r. ⌜ (answer-of r ≡ answered (whole-mesh-checks (limits-in viewers) (now (mesh .entry)) (now (scratch .entry)))) × (now (scratch .exit) ≡ now (scratch .entry)) ⌝ }
 {
     if !mesh::mesh_lent(mesh, scratch) {
         return Answer::Refused(Refusal::MemorySize);
     }
-    if !mesh::all_sound(mesh) {
+    if !mesh::all_sound(mesh, viewers) {
         return Answer::Refused(Refusal::NotAnImage);
     }
     if !mesh::blocks_right(mesh) {
@@ -41,8 +41,8 @@ pub fn mesh_asked(mesh: &[u64], scratch: &mut [u64]) -> Answer
 }
 
 // Check mesh: is it sound? The scratch is zero before and after.
-pub fn check_mesh(mesh: &[u64], scratch: &mut [u64]) -> Answer
-    ensures { λ r. ⌜ Gives (check-mesh (λ _. rack) (now (mesh .entry)) (now (scratch .entry))) (answer-of r) (now (scratch .exit)) ⌝ }
+pub fn check_mesh(mesh: &[u64], viewers: u32, scratch: &mut [u64]) -> Answer
+    ensures { λ r. ⌜ Gives (check-mesh (limits-in viewers) (now (mesh .entry)) (now (scratch .entry))) (answer-of r) (now (scratch .exit)) ⌝ }
 {
-    mesh_asked(mesh, scratch)
+    mesh_asked(mesh, viewers, scratch)
 }

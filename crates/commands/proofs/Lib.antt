@@ -1,3 +1,4 @@
 pub mod Scans
 pub mod Fields
 pub mod NameLaws
+pub mod Viewing

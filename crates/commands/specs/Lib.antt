@@ -2,3 +2,4 @@ pub mod Words
 pub mod Lines
 pub mod Commands
 pub mod Names
+pub mod Viewers

@@ -18,13 +18,13 @@ pub struct Name {
 }
 
 // The digit of a number's tens and of its ones.
-fn tens(b: usize) -> u8
+pub fn tens(b: usize) -> u8
     ensures { λ r. ⌜ r ≡ 48 + b / 10 % 10 ⌝ }
 {
     (48 + b / 10 % 10) as u8
 }
 
-fn ones(b: usize) -> u8
+pub fn ones(b: usize) -> u8
     ensures { λ r. ⌜ r ≡ 48 + b % 10 ⌝ }
 {
     (48 + b % 10) as u8

@@ -2,6 +2,7 @@
 use answers::Answer;
 use balance::nextmove;
 use commands::names;
+use commands::viewers;
 use memory::header::BLOCKS;
 use memory::header::Header;
 use memory::kind;
@@ -19,8 +20,16 @@ fn show_pieces(n: u64) {
     say::text(b" pieces");
 }
 
-// A block's darts, volumes and their pieces, critical faces and counter.
-fn show_block(b: usize, block: &[u64]) {
+// A block's number, as its memory has it.
+fn number_in(block: &[u64]) -> u64 {
+    if Header::NUMBER < block.len() {
+        return block[Header::NUMBER];
+    }
+    0
+}
+
+// A block's darts, volumes and their pieces, critical faces and counter, and that it is a viewer's.
+fn show_block(b: usize, block: &[u64], viewers: u32) {
     say::text(b"block ");
     say::number(b as u64);
     say::text(b": ");
@@ -34,26 +43,31 @@ fn show_block(b: usize, block: &[u64]) {
     say::number(t.critical);
     say::text(b" critical faces, counter ");
     say::number(t.counter);
+    if viewers::has(viewers, number_in(block)) {
+        say::text(b", viewer");
+    }
     say::text(b"\n");
 }
 
 // A line for each block.
-pub fn show_blocks(mesh: &[u64]) {
+pub fn show_blocks(mesh: &[u64], viewers: u32) {
     let k = mesh.len() / Header::WORDS;
     let mut b = 0;
     while b < k {
-        show_block(b, mesh::part_of(mesh, b));
+        show_block(b, mesh::part_of(mesh, b), viewers);
         b += 1;
     }
 }
 
 // The first of the blocks that are refused by a number when those behind it are left out.
-fn first_refused(question: u32, mesh: &[u64], scratch: &mut [u64]) -> usize {
+fn first_refused(question: u32, mesh: &[u64], viewers: u32, scratch: &mut [u64]) -> usize {
     let k = mesh.len() / Header::WORDS;
     let mut b = 0;
     while b < k {
         let end = b * Header::WORDS + Header::WORDS;
-        if answers::answer_number(checkmesh::check_mesh(&mesh[0..end], scratch)) == question {
+        if answers::answer_number(checkmesh::check_mesh(&mesh[0..end], viewers, scratch))
+            == question
+        {
             return b;
         }
         b += 1;
@@ -116,11 +130,25 @@ fn say_missing(mesh: &[u64]) -> bool {
     false
 }
 
-// Which file a refusal is about: one of them, where its number or a serial is wrong; one that is missing and named; or all together.
-fn say_where(question: u32, mesh: &[u64], scratch: &mut [u64]) {
-    if (question == 23) | (question == 24) {
-        let b = first_refused(question, mesh, scratch);
+// How many darts block b has, where that is too many for a viewer.
+fn say_darts(mesh: &[u64], b: usize) {
+    if b < mesh.len() / Header::WORDS {
+        let t = stats::count_block(mesh::part_of(mesh, b));
+        say::text(b", with ");
+        say::number(t.darts);
+        say::text(b" darts");
+    }
+}
+
+// Which file a refusal is about: one of them, where it has too many darts for a viewer, or its number or a serial is wrong; one that is
+// missing and named; or all together.
+fn say_where(question: u32, mesh: &[u64], viewers: u32, scratch: &mut [u64]) {
+    if (question == 2) | (question == 23) | (question == 24) {
+        let b = first_refused(question, mesh, viewers, scratch);
         say::text(&names::block(b));
+        if question == 2 {
+            say_darts(mesh, b);
+        }
         return;
     }
     if question == 25 {
@@ -132,13 +160,13 @@ fn say_where(question: u32, mesh: &[u64], scratch: &mut [u64]) {
 }
 
 // Whether the blocks are a sound mesh; where not, why.
-pub fn is_sound(mesh: &[u64], scratch: &mut [u64]) -> bool {
-    match checkmesh::check_mesh(mesh, scratch) {
+pub fn is_sound(mesh: &[u64], viewers: u32, scratch: &mut [u64]) -> bool {
+    match checkmesh::check_mesh(mesh, viewers, scratch) {
         Answer::Served => true,
         Answer::Refused(r) => {
             let question = answers::refusal_number(r);
             say::refused(question);
-            say_where(question, mesh, scratch);
+            say_where(question, mesh, viewers, scratch);
             say::text(b": ");
             say::meaning(question);
             say::text(b"\n");
@@ -186,8 +214,14 @@ fn show_surpluses(surplus: [i32; BLOCKS], k: usize) {
 
 // A line about a balance: how many volumes are picked in each block, their mean and the surpluses, as next move tells them; whether it does.
 // Where not, why.
-pub fn show_balance(when: &[u8], mesh: &[u64], o: Oracle, scratch: &mut [u64]) -> bool {
-    let b = nextmove::next_move(mesh, o, scratch);
+pub fn show_balance(
+    when: &[u8],
+    mesh: &[u64],
+    viewers: u32,
+    o: Oracle,
+    scratch: &mut [u64],
+) -> bool {
+    let b = nextmove::next_move(mesh, viewers, o, scratch);
     let next = b.next;
     let question = answers::move_number(next);
     if question != 0 {

@@ -91,7 +91,7 @@ fn show_outcome(outcome: u64) {
         say::text(b"moved\n");
         return;
     }
-    if outcome <= 28 {
+    if outcome <= 29 {
         let question = outcome as u32;
         say::refused(question);
         say::meaning(question);

@@ -7,6 +7,8 @@ use commands::command;
 use commands::command::Command;
 use commands::command::OracleWord;
 use commands::names;
+use commands::viewers;
+use commands::viewers::Viewers;
 use commands::words::Number;
 use console::arguments;
 use console::arguments::Given;
@@ -52,6 +54,9 @@ fn help() {
     say::text(
         b"play, balance, split and add take --dry-run: all is printed, nothing is saved; play takes --all-or-nothing: one refusal, and nothing is saved\n",
     );
+    say::text(
+        b"the file viewers, where there is one, is a line as '3 7' that names the blocks that are viewers', which have at most 256 darts and give and take cells of at most 64\n",
+    );
 }
 
 // The words of a command are not what it takes.
@@ -63,9 +68,9 @@ fn wrong_words(usage: &[u8]) -> Status {
 }
 
 // Check, once the blocks are read.
-fn check_blocks(mesh: &[u64], scratch: &mut [u64]) -> Status {
-    inspect::show_blocks(mesh);
-    if inspect::is_sound(mesh, scratch) {
+fn check_blocks(mesh: &[u64], viewers: u32, scratch: &mut [u64]) -> Status {
+    inspect::show_blocks(mesh, viewers);
+    if inspect::is_sound(mesh, viewers, scratch) {
         say::text(b"sound\n");
         return Status::Done;
     }
@@ -73,11 +78,14 @@ fn check_blocks(mesh: &[u64], scratch: &mut [u64]) -> Status {
 }
 
 fn check(mesh: &mut [u64], scratch: &mut [u64], room: &mut [u8]) -> Status {
+    let Viewers::Bits(viewers) = reading::viewers() else {
+        return Status::Error;
+    };
     match reading::look(mesh, room) {
         Basin::Blocks(k) => {
             if k <= mesh.len() / Header::WORDS {
                 let end = k * Header::WORDS;
-                return check_blocks(&mesh[0..end], scratch);
+                return check_blocks(&mesh[0..end], viewers, scratch);
             }
             Status::Error
         }
@@ -106,16 +114,28 @@ fn tell_block(cells: bool, file: &[u8], block: &[u64], rows: &mut [u64], text: &
     show_listing(file, text);
 }
 
+// Reads block b's file into a block's memory; a viewer's block only where a viewer can read it.
+fn read_block(viewers: u32, b: usize, file: &[u8], block: &mut [u64]) -> Answer {
+    if viewers::has(viewers, b as u64) {
+        let mut own = [0u64; Header::VIEWER_WORDS];
+        if let Answer::Refused(r) = viewer::read_file(file, &mut own) {
+            return Answer::Refused(r);
+        }
+    }
+    readfile::read_file(file, block)
+}
+
 // What list and cells tell of block b's file, or why it is refused.
 fn tell_file(
     cells: bool,
     b: usize,
+    viewers: u32,
     file: &[u8],
     block: &mut [u64],
     rows: &mut [u64],
     text: &mut [u8],
 ) -> Status {
-    match readfile::read_file(file, block) {
+    match read_block(viewers, b, file, block) {
         Answer::Refused(r) => {
             reading::say_refused(b, answers::refusal_number(r));
             Status::Refused
@@ -136,12 +156,15 @@ fn tell(
     text: &mut [u8],
     room: &mut [u8],
 ) -> Status {
+    let Viewers::Bits(viewers) = reading::viewers() else {
+        return Status::Error;
+    };
     match reading::file_of(b, room) {
         Contents::Bytes(n) => {
             if n <= room.len() {
                 if Header::WORDS <= mesh.len() {
                     let block = &mut mesh[0..Header::WORDS];
-                    return tell_file(cells, b, &room[0..n], block, rows, text);
+                    return tell_file(cells, b, viewers, &room[0..n], block, rows, text);
                 }
             }
             Status::Error

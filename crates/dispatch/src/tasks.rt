@@ -1,5 +1,6 @@
 // What a command does to a basin that it may save: it plays requests, balances, or adds blocks.
 use crate::status::Status;
+use commands::viewers::Viewers;
 use console::arguments::Options;
 use console::inspect;
 use console::moving;
@@ -67,14 +68,15 @@ fn play_on(
     requests: &[u64],
     outcomes: &mut [u64],
     mesh: &mut [u64],
+    viewers: u32,
     scratch: &mut [u64],
     outbox: &mut [u8],
     room: &mut [u8],
 ) -> Status {
-    if !inspect::is_sound(mesh, scratch) {
+    if !inspect::is_sound(mesh, viewers, scratch) {
         return Status::Refused;
     }
-    rounds::list::play_all(mesh, requests, outcomes, outbox);
+    rounds::list::play_all(mesh, viewers, requests, outcomes, outbox);
     playing::show(input, outcomes);
     end_play(outcomes, o, mesh, room)
 }
@@ -100,10 +102,11 @@ fn balance_part(
     before: u64,
     moves: &mut [u64],
     mesh: &mut [u64],
+    viewers: u32,
     scratch: &mut [u64],
     outbox: &mut [u8],
 ) -> Ended {
-    match rebalance::balance(mesh, by, scratch, outbox, moves) {
+    match rebalance::balance(mesh, viewers, by, scratch, outbox, moves) {
         Balanced::Full(n) => Ended::More(told(moves, before, n)),
         Balanced::Level(n) => Ended::Level(told(moves, before, n)),
         Balanced::Blocked(n) => Ended::Blocked(told(moves, before, n)),
@@ -126,6 +129,7 @@ fn balance_parts(
     by: Oracle,
     moves: &mut [u64],
     mesh: &mut [u64],
+    viewers: u32,
     scratch: &mut [u64],
     outbox: &mut [u8],
 ) -> Ended {
@@ -134,7 +138,7 @@ fn balance_parts(
     let mut part = 0;
     while part < most {
         part += 1;
-        let ended = balance_part(by, done, moves, mesh, scratch, outbox);
+        let ended = balance_part(by, done, moves, mesh, viewers, scratch, outbox);
         let Ended::More(n) = ended else {
             return ended;
         };
@@ -151,6 +155,7 @@ fn end_balance(
     grown: bool,
     dry: bool,
     mesh: &[u64],
+    viewers: u32,
     scratch: &mut [u64],
     room: &mut [u8],
 ) -> Status {
@@ -159,13 +164,21 @@ fn end_balance(
     say::text(b" after ");
     say::number(n);
     say::text(b" moves\n");
-    if !inspect::show_balance(b"# after:", mesh, by, scratch) {
+    if !inspect::show_balance(b"# after:", mesh, viewers, by, scratch) {
         return Status::Error;
     }
     if !save_if(grown | (0 < n), dry, mesh, room) {
         return Status::Error;
     }
     Status::Done
+}
+
+// Whether a basin that is open is sound and can be balanced by an oracle; tells what there is before, or why not.
+fn may_balance(by: Oracle, mesh: &[u64], viewers: u32, scratch: &mut [u64]) -> bool {
+    if !inspect::is_sound(mesh, viewers, scratch) {
+        return false;
+    }
+    inspect::show_balance(b"# before:", mesh, viewers, by, scratch)
 }
 
 // Balances a basin that is open, and that may have grown since it was read.
@@ -175,19 +188,27 @@ fn balance_on(
     dry: bool,
     moves: &mut [u64],
     mesh: &mut [u64],
+    viewers: u32,
     scratch: &mut [u64],
     outbox: &mut [u8],
     room: &mut [u8],
 ) -> Status {
-    if !inspect::is_sound(mesh, scratch) {
+    if !may_balance(by, mesh, viewers, scratch) {
         return Status::Refused;
     }
-    if !inspect::show_balance(b"# before:", mesh, by, scratch) {
-        return Status::Refused;
-    }
-    match balance_parts(by, moves, mesh, scratch, outbox) {
-        Ended::Level(n) => end_balance(b"level", n, by, grown, dry, mesh, scratch, room),
-        Ended::Blocked(n) => end_balance(b"blocked", n, by, grown, dry, mesh, scratch, room),
+    match balance_parts(by, moves, mesh, viewers, scratch, outbox) {
+        Ended::Level(n) => end_balance(b"level", n, by, grown, dry, mesh, viewers, scratch, room),
+        Ended::Blocked(n) => end_balance(
+            b"blocked",
+            n,
+            by,
+            grown,
+            dry,
+            mesh,
+            viewers,
+            scratch,
+            room,
+        ),
         Ended::More(_) => {
             say::error(b"there are more moves than a sound basin has: nothing is saved");
             Status::Error
@@ -198,8 +219,15 @@ fn balance_on(
 }
 
 // Saves a basin that is open, if it has grown since it was read.
-fn keep_on(grown: bool, dry: bool, mesh: &[u64], scratch: &mut [u64], room: &mut [u8]) -> Status {
-    if !inspect::is_sound(mesh, scratch) {
+fn keep_on(
+    grown: bool,
+    dry: bool,
+    mesh: &[u64],
+    viewers: u32,
+    scratch: &mut [u64],
+    room: &mut [u8],
+) -> Status {
+    if !inspect::is_sound(mesh, viewers, scratch) {
         return Status::Refused;
     }
     say::text(b"# the basin has ");
@@ -248,6 +276,7 @@ fn carry_out(
     requests: &mut [u64],
     outcomes: &mut [u64],
     mesh: &mut [u64],
+    viewers: u32,
     scratch: &mut [u64],
     outbox: &mut [u8],
     room: &mut [u8],
@@ -256,11 +285,33 @@ fn carry_out(
         Task::Play(n) => {
             if n <= outcomes.len() {
                 let part = &mut outcomes[0..n];
-                return play_on(o, input, requests, part, mesh, scratch, outbox, room);
+                return play_on(
+                    o,
+                    input,
+                    requests,
+                    part,
+                    mesh,
+                    viewers,
+                    scratch,
+                    outbox,
+                    room,
+                );
             }
             Status::Error
         }
-        Task::Balance(by) => { balance_on(by, grown, o.dry, requests, mesh, scratch, outbox, room) }
+        Task::Balance(by) => {
+            balance_on(
+                by,
+                grown,
+                o.dry,
+                requests,
+                mesh,
+                viewers,
+                scratch,
+                outbox,
+                room,
+            )
+        }
         Task::Split(_) => {
             balance_on(
                 Oracle::Every,
@@ -268,12 +319,13 @@ fn carry_out(
                 o.dry,
                 requests,
                 mesh,
+                viewers,
                 scratch,
                 outbox,
                 room,
             )
         }
-        Task::Add(_) => keep_on(grown, o.dry, mesh, scratch, room),
+        Task::Add(_) => keep_on(grown, o.dry, mesh, viewers, scratch, room),
     }
 }
 
@@ -296,6 +348,7 @@ fn carry_out_on(
     requests: &mut [u64],
     outcomes: &mut [u64],
     mesh: &mut [u64],
+    viewers: u32,
     scratch: &mut [u64],
     outbox: &mut [u8],
     room: &mut [u8],
@@ -315,6 +368,7 @@ fn carry_out_on(
             requests,
             outcomes,
             part,
+            viewers,
             scratch,
             outbox,
             room,
@@ -331,6 +385,7 @@ fn read_and_do(
     requests: &mut [u64],
     outcomes: &mut [u64],
     mesh: &mut [u64],
+    viewers: u32,
     scratch: &mut [u64],
     outbox: &mut [u8],
     room: &mut [u8],
@@ -344,6 +399,7 @@ fn read_and_do(
             requests,
             outcomes,
             mesh,
+            viewers,
             scratch,
             outbox,
             room,
@@ -361,6 +417,7 @@ fn recover_and_do(
     requests: &mut [u64],
     outcomes: &mut [u64],
     mesh: &mut [u64],
+    viewers: u32,
     scratch: &mut [u64],
     outbox: &mut [u8],
     room: &mut [u8],
@@ -375,6 +432,7 @@ fn recover_and_do(
         requests,
         outcomes,
         mesh,
+        viewers,
         scratch,
         outbox,
         room,
@@ -393,6 +451,9 @@ pub fn run(
     outbox: &mut [u8],
     room: &mut [u8],
 ) -> Status {
+    let Viewers::Bits(viewers) = reading::viewers() else {
+        return Status::Error;
+    };
     if o.dry {
         return read_and_do(
             task,
@@ -401,6 +462,7 @@ pub fn run(
             requests,
             outcomes,
             mesh,
+            viewers,
             scratch,
             outbox,
             room,
@@ -415,6 +477,7 @@ pub fn run(
                 requests,
                 outcomes,
                 mesh,
+                viewers,
                 scratch,
                 outbox,
                 room,

@@ -6,13 +6,13 @@ use Prim.Native.Nat.{ℕ}
 use native.Mathlib.Omega.{arith}
 use lib.Dec.{eqb}
 use lib.ListN.{length}
-use Rattle.model.specs.Values.{rack, all-rack}
+use Rattle.model.specs.Values.{Limits, rack, viewer, limits-in}
 use Rattle.model.specs.Balance.{Balance}
 use Rattle.model.specs.Calls.{Answer, served, refused, Result, number-of}
 use Rattle.model.specs.Demands.{Unchanged, Demand1}
 use Rattle.laws.proofs.Tests.{by-cases}
 use Rattle.theory.proofs.CallLaws.{demand1}
-use Rattle.dmap.specs.CInterface.{AnswerNumbered, WrittenCounted, written-over, answer-words, sized-first, balance-over, Moved, CKeeps}
+use Rattle.dmap.specs.CInterface.{AnswerNumbered, WrittenCounted, written-over, answer-words, sized-first, balance-over, Moved, BlockKeeps, CKeeps}
 
 module _ {A : Type 0} (before : List ℕ) (result : Result A) (u : Unchanged before result) where
   lent-kept : number-of (result .answer) ≢ 0 → result .lent ≡ before
@@ -60,9 +60,9 @@ sized-unchanged words scratch result u = by-cases (eqb (length words) answer-wor
         one : _≡_ {A = ℕ} 1 0 → ⊥
         one e = omega arith
 
-pub c-keeps : CKeeps
-c-keeps =
-    let d : Demand1 rack all-rack = demand1 rack all-rack in
+block-keeps : (lim : Limits) → BlockKeeps lim
+block-keeps lim =
+    let d : Demand1 lim (limits-in 0) = demand1 lim (limits-in 0) in
     record {
       empty-keeps = λ n m. numbered-keeps m _ (d .empty-keeps n m);
       read-file-keeps = λ file m. numbered-keeps m _ (d .read-file-keeps file m);
@@ -71,7 +71,13 @@ c-keeps =
       receive-keeps = λ m message. numbered-keeps m _ (d .receive-keeps m message);
       release-keeps = λ m j s. numbered-keeps m _ (d .release-keeps m j s);
       redirect-keeps = λ m message. numbered-keeps m _ (d .redirect-keeps m message);
-      check-mesh-keeps = λ mesh scratch. numbered-keeps scratch _ (d .check-mesh-keeps mesh scratch);
-      next-move-keeps = λ mesh n axis low high scratch before.
-          moved-keeps scratch _ (sized-unchanged before scratch _ (d .numbered-keeps mesh n axis low high scratch)) before;
     }
+
+pub c-keeps : CKeeps
+c-keeps = record {
+  rack-keeps = block-keeps rack;
+  viewer-keeps = block-keeps viewer;
+  check-mesh-keeps = λ mesh viewers scratch. numbered-keeps scratch _ (demand1 rack (limits-in viewers) .check-mesh-keeps mesh scratch);
+  next-move-keeps = λ mesh viewers n axis low high scratch before.
+      moved-keeps scratch _ (sized-unchanged before scratch _ (demand1 rack (limits-in viewers) .numbered-keeps mesh n axis low high scratch)) before;
+}

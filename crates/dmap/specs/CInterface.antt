@@ -8,7 +8,7 @@ use lib.Dec.{eqb}
 use lib.IntN.{ℤ}
 use lib.ListN.{length, getD, take}
 use lib.Ieee.{Float, binary64, toBits}
-use Rattle.model.specs.Values.{Point, rack, all-rack}
+use Rattle.model.specs.Values.{Point, Limits, rack, viewer, limits-in}
 use Rattle.model.specs.Balance.{Balance}
 use Rattle.model.specs.Calls.{Answer, served, refused, Result, number-of, values-of, written-values, signed-word, balance-values, empty, read-file, save-file, send, receive, release, redirect, check-mesh, next-move-by-number}
 
@@ -44,9 +44,9 @@ answer-words = 21
 unfoldable pub sized-first : List ℕ → List ℕ → Result Balance → Result Balance
 sized-first words scratch result = cond (eqb (length words) answer-words) result (record { answer = refused 1; lent = scratch })
 
--- the call: mesh, the oracle's number, axis, low, high, scratch, answer
-abbrev pub next-move-told : List ℕ → ℕ → ℕ → Point → Point → List ℕ → List ℕ → Result Balance
-next-move-told mesh n axis low high scratch words = sized-first words scratch (next-move-by-number all-rack mesh n axis low high scratch)
+-- the call: mesh, viewers, the oracle's number, axis, low, high, scratch, answer
+abbrev pub next-move-told : List ℕ → ℕ → ℕ → ℕ → Point → Point → List ℕ → List ℕ → Result Balance
+next-move-told mesh viewers n axis low high scratch words = sized-first words scratch (next-move-by-number (limits-in viewers) mesh n axis low high scratch)
 
 -- the words of the answer, or what stood there before
 abbrev pub balance-over : List ℕ → Answer Balance → List ℕ
@@ -71,16 +71,22 @@ with-surpluses l ss = take 5 l ++ map signed-word ss
 -- block's memory, the output, the outbox or the scratch, the count behind `written` and the words of `answer`: a call whose number is not 0
 -- leaves all of them. Files, messages and meshes, and the block of a save or a send, are lent by `&`: such a slice cannot be written, so it
 -- is not among what a call returns.
-pub record CKeeps : Type 0 where
-  pub empty-keeps : (n : ℕ) (m : List ℕ) (number : ℕ) (lent : List ℕ) → AnswerNumbered (empty rack n m) number lent → number ≢ 0 → lent ≡ m
-  pub read-file-keeps : (file m : List ℕ) (number : ℕ) (lent : List ℕ) → AnswerNumbered (read-file rack file m) number lent → number ≢ 0 → lent ≡ m
-  pub save-file-keeps : (m out : List ℕ) (before number : ℕ) (lent : List ℕ) (written : ℕ) → WrittenCounted (save-file rack m out) before number lent written
+-- by the limits of a block's memory
+pub record BlockKeeps (lim : Limits) : Type 0 where
+  pub empty-keeps : (n : ℕ) (m : List ℕ) (number : ℕ) (lent : List ℕ) → AnswerNumbered (empty lim n m) number lent → number ≢ 0 → lent ≡ m
+  pub read-file-keeps : (file m : List ℕ) (number : ℕ) (lent : List ℕ) → AnswerNumbered (read-file lim file m) number lent → number ≢ 0 → lent ≡ m
+  pub save-file-keeps : (m out : List ℕ) (before number : ℕ) (lent : List ℕ) (written : ℕ) → WrittenCounted (save-file lim m out) before number lent written
       → number ≢ 0 → (lent ≡ out) × (written ≡ before)
   pub send-keeps : (m : List ℕ) (j s : ℕ) (outbox : List ℕ) (before number : ℕ) (lent : List ℕ) (written : ℕ)
-      → WrittenCounted (send rack m j s outbox) before number lent written → number ≢ 0 → (lent ≡ outbox) × (written ≡ before)
-  pub receive-keeps : (m message : List ℕ) (number : ℕ) (lent : List ℕ) → AnswerNumbered (receive rack m message) number lent → number ≢ 0 → lent ≡ m
-  pub release-keeps : (m : List ℕ) (j s number : ℕ) (lent : List ℕ) → AnswerNumbered (release rack m j s) number lent → number ≢ 0 → lent ≡ m
-  pub redirect-keeps : (m message : List ℕ) (number : ℕ) (lent : List ℕ) → AnswerNumbered (redirect rack m message) number lent → number ≢ 0 → lent ≡ m
-  pub check-mesh-keeps : (mesh scratch : List ℕ) (number : ℕ) (lent : List ℕ) → AnswerNumbered (check-mesh all-rack mesh scratch) number lent → number ≢ 0 → lent ≡ scratch
-  pub next-move-keeps : (mesh : List ℕ) (n axis : ℕ) (low high : Point) (scratch before : List ℕ) (number : ℕ) (lent words : List ℕ)
-      → Moved (next-move-told mesh n axis low high scratch before) before number lent words → number ≢ 0 → (lent ≡ scratch) × (words ≡ before)
+      → WrittenCounted (send lim m j s outbox) before number lent written → number ≢ 0 → (lent ≡ outbox) × (written ≡ before)
+  pub receive-keeps : (m message : List ℕ) (number : ℕ) (lent : List ℕ) → AnswerNumbered (receive lim m message) number lent → number ≢ 0 → lent ≡ m
+  pub release-keeps : (m : List ℕ) (j s number : ℕ) (lent : List ℕ) → AnswerNumbered (release lim m j s) number lent → number ≢ 0 → lent ≡ m
+  pub redirect-keeps : (m message : List ℕ) (number : ℕ) (lent : List ℕ) → AnswerNumbered (redirect lim m message) number lent → number ≢ 0 → lent ≡ m
+
+pub record CKeeps : Type 0 where
+  pub rack-keeps : BlockKeeps rack
+  pub viewer-keeps : BlockKeeps viewer
+  pub check-mesh-keeps : (mesh : List ℕ) (viewers : ℕ) (scratch : List ℕ) (number : ℕ) (lent : List ℕ)
+      → AnswerNumbered (check-mesh (limits-in viewers) mesh scratch) number lent → number ≢ 0 → lent ≡ scratch
+  pub next-move-keeps : (mesh : List ℕ) (viewers n axis : ℕ) (low high : Point) (scratch before : List ℕ) (number : ℕ) (lent words : List ℕ)
+      → Moved (next-move-told mesh viewers n axis low high scratch before) before number lent words → number ≢ 0 → (lent ≡ scratch) × (words ≡ before)

@@ -3,7 +3,7 @@
 ghost use mathlib.Core.Path.{_≡_};
 ghost use mathlib.Core.List.{_∷_, map};
 ghost use lib.ListN.{length, drop};
-ghost use Rattle.model.specs.Values.{rack};
+ghost use Rattle.model.specs.Values.{rack, viewer, limits-in};
 ghost use Rattle.model.specs.Calls as calls;
 ghost use Rattle.answers.specs.Answers.{written-of};
 ghost use Rattle.balance.specs.Answer.{balance-told};
@@ -25,6 +25,13 @@ pub use redirect::redirect;
 pub use release::release;
 pub use savefile::save_file;
 pub use send::send;
+pub use viewer::empty as viewer_empty;
+pub use viewer::read_file as viewer_read_file;
+pub use viewer::receive as viewer_receive;
+pub use viewer::redirect as viewer_redirect;
+pub use viewer::release as viewer_release;
+pub use viewer::save_file as viewer_save_file;
+pub use viewer::send as viewer_send;
 
 #[no_mangle]
 pub extern "C" fn dmap_empty(number: u64, block: &mut [u64]) -> u32
@@ -82,16 +89,17 @@ pub extern "C" fn dmap_redirect(block: &mut [u64], message: &[u8]) -> u32
 }
 
 #[no_mangle]
-pub extern "C" fn dmap_check_mesh(mesh: &[u64], scratch: &mut [u64]) -> u32
-    ensures { λ r. ⌜ AnswerNumbered (calls.check-mesh (λ _. rack) (now (mesh .entry)) (now (scratch .entry))) r (now (scratch .exit)) ⌝ }
+pub extern "C" fn dmap_check_mesh(mesh: &[u64], viewers: u32, scratch: &mut [u64]) -> u32
+    ensures { λ r. ⌜ AnswerNumbered (calls.check-mesh (limits-in viewers) (now (mesh .entry)) (now (scratch .entry))) r (now (scratch .exit)) ⌝ }
 {
-    answers::answer_number(checkmesh::check_mesh(mesh, scratch))
+    answers::answer_number(checkmesh::check_mesh(mesh, viewers, scratch))
 }
 
-// Oracle 0 is every volume, 1 the box of two points, 2 the plane on an axis at x0.
+// Bit b of `viewers` says that the block numbered b is a viewer's. Oracle 0 is every volume, 1 the box of two points, 2 the plane on an axis at x0.
 #[no_mangle]
 pub extern "C" fn dmap_next_move(
     mesh: &[u64],
+    viewers: u32,
     oracle: u32,
     axis: u32,
     x0: f64,
@@ -103,7 +111,7 @@ pub extern "C" fn dmap_next_move(
     scratch: &mut [u64],
     answer: &mut [u64],
 ) -> u32
-    ensures { λ r. ⌜ Moved (next-move-told (now (mesh .entry)) oracle axis (point-words x0 y0 z0) (point-words x1 y1 z1) (now (scratch .entry)) (now (answer .entry))) (now (answer .entry)) r (now (scratch .exit)) (now (answer .exit)) ⌝ }
+    ensures { λ r. ⌜ Moved (next-move-told (now (mesh .entry)) viewers oracle axis (point-words x0 y0 z0) (point-words x1 y1 z1) (now (scratch .entry)) (now (answer .entry))) (now (answer .entry)) r (now (scratch .exit)) (now (answer .exit)) ⌝ }
 {
     if answer.len() != ANSWER {
         return 1;
@@ -119,9 +127,65 @@ pub extern "C" fn dmap_next_move(
         z: z1,
     };
     tell_balance(
-        balance::nextmove::next_move_by_number(mesh, oracle, axis, low, high, scratch),
+        balance::nextmove::next_move_by_number(mesh, viewers, oracle, axis, low, high, scratch),
         answer,
     )
+}
+
+// THE CALLS OF THE OFFICE'S VIEWER, on memory of 2,056 words.
+#[no_mangle]
+pub extern "C" fn dmap_viewer_empty(number: u64, block: &mut [u64]) -> u32
+    ensures { λ r. ⌜ AnswerNumbered (calls.empty viewer number (now (block .entry))) r (now (block .exit)) ⌝ }
+{
+    answers::answer_number(viewer::empty(number, block))
+}
+
+#[no_mangle]
+pub extern "C" fn dmap_viewer_read_file(file: &[u8], block: &mut [u64]) -> u32
+    ensures { λ r. ⌜ AnswerNumbered (calls.read-file viewer (now (file .entry)) (now (block .entry))) r (now (block .exit)) ⌝ }
+{
+    answers::answer_number(viewer::read_file(file, block))
+}
+
+#[no_mangle]
+pub extern "C" fn dmap_viewer_save_file(block: &[u64], out: &mut [u8], written: &mut u64) -> u32
+    ensures { λ r. ⌜ WrittenCounted (calls.save-file viewer (now (block .entry)) (now (out .entry))) (now (written .entry)) r (now (out .exit)) (now (written .exit)) ⌝ }
+{
+    tell_written(viewer::save_file(block, out), written)
+}
+
+#[no_mangle]
+pub extern "C" fn dmap_viewer_send(
+    block: &[u64],
+    to: u64,
+    serial: u64,
+    outbox: &mut [u8],
+    written: &mut u64,
+) -> u32
+    ensures { λ r. ⌜ WrittenCounted (calls.send viewer (now (block .entry)) to serial (now (outbox .entry))) (now (written .entry)) r (now (outbox .exit)) (now (written .exit)) ⌝ }
+{
+    tell_written(viewer::send(block, to, serial, outbox), written)
+}
+
+#[no_mangle]
+pub extern "C" fn dmap_viewer_receive(block: &mut [u64], message: &[u8]) -> u32
+    ensures { λ r. ⌜ AnswerNumbered (calls.receive viewer (now (block .entry)) (now (message .entry))) r (now (block .exit)) ⌝ }
+{
+    answers::answer_number(viewer::receive(block, message))
+}
+
+#[no_mangle]
+pub extern "C" fn dmap_viewer_release(block: &mut [u64], to: u64, serial: u64) -> u32
+    ensures { λ r. ⌜ AnswerNumbered (calls.release viewer (now (block .entry)) to serial) r (now (block .exit)) ⌝ }
+{
+    answers::answer_number(viewer::release(block, to, serial))
+}
+
+#[no_mangle]
+pub extern "C" fn dmap_viewer_redirect(block: &mut [u64], message: &[u8]) -> u32
+    ensures { λ r. ⌜ AnswerNumbered (calls.redirect viewer (now (block .entry)) (now (message .entry))) r (now (block .exit)) ⌝ }
+{
+    answers::answer_number(viewer::redirect(block, message))
 }
 
 // The number of an answer; the bytes written go out only where the call was served.

@@ -4,7 +4,7 @@ use mathlib.Core.Bool.{true, false}
 use mathlib.Core.List.{List, [], _∷_, _++_}
 use Prim.Native.Nat.{ℕ, zero, suc, _+_, _*_}
 use lib.IntN.{pos, negsuc}
-use Rattle.model.specs.Values.{free, Dart, Block, all-rack}
+use Rattle.model.specs.Values.{free, Dart, Block, limits-in}
 use Rattle.model.specs.Balance.{every, counts, squared-counts, differences, level, blocked, move, may-give, recipients, is-level, next-of}
 use Rattle.model.specs.Calls.{signed-word}
 use Rattle.model.specs.Everything.{everything}
@@ -67,16 +67,16 @@ unfolding mesh-of everything
 none-more = refl
 
 -- a donor below the mean, 3, and a recipient above it, 1
-donor-below : next-of all-rack every (mesh-of 0 0 (2 ∷ 0 ∷ 7 ∷ [])) ≡ move (record { donor = 0; recipient = 1; serial = 1 })
+donor-below : next-of (limits-in 0) every (mesh-of 0 0 (2 ∷ 0 ∷ 7 ∷ [])) ≡ move (record { donor = 0; recipient = 1; serial = 1 })
 unfolding mesh-of everything
 donor-below = refl
 
-recipient-above : next-of all-rack every (mesh-of 0 0 (4 ∷ 2 ∷ 0 ∷ 0 ∷ [])) ≡ move (record { donor = 0; recipient = 1; serial = 1 })
+recipient-above : next-of (limits-in 0) every (mesh-of 0 0 (4 ∷ 2 ∷ 0 ∷ 0 ∷ [])) ≡ move (record { donor = 0; recipient = 1; serial = 1 })
 unfolding mesh-of everything
 recipient-above = refl
 
 -- one above the mean, and yet level
-one-above : next-of all-rack every (mesh-of 0 0 (2 ∷ 1 ∷ [])) ≡ level
+one-above : next-of (limits-in 0) every (mesh-of 0 0 (2 ∷ 1 ∷ [])) ≡ level
 unfolding mesh-of everything
 one-above = refl
 
@@ -85,7 +85,7 @@ staying : List Block
 unfolding dart block
 staying = block 0 (dart 1 1 2 free ∷ dart 2 2 1 free ∷ dart 3 3 4 free ∷ dart 4 4 3 free ∷ []) ∷ block 1 [] ∷ []
 
-none-may-go : next-of all-rack every staying ≡ blocked
+none-may-go : next-of (limits-in 0) every staying ≡ blocked
 unfolding staying everything
 none-may-go = refl
 

@@ -6,7 +6,7 @@ use Prim.Native.Nat.{ℕ, zero, suc, _+_, _*_}
 use lib.IntN.{ℤ, pos, negsuc}
 use lib.ListN.{getD, replicate}
 use Rattle.model.specs.Lists.{all, tab, concat, same-list}
-use Rattle.model.specs.Values.{blocks, Dart, all-rack}
+use Rattle.model.specs.Values.{blocks, Dart, limits-in}
 use Rattle.model.specs.Image.{words, image, block-in}
 use Rattle.model.specs.Balance.{every, counts, Move, NextMove, level, blocked, move, Balance}
 use Rattle.model.specs.Calls.{Answer, served, refused, values-of, balance-values, scratch-entries, next-move}
@@ -26,12 +26,12 @@ blocks-of b k (n ∷ ns) = image words (block b (pillows n k)) ∷ blocks-of (su
 
 answered : List (List ℕ) → Answer Balance
 unfolding everything
-answered ms = next-move all-rack (concat ms) every (replicate scratch-entries 0) .answer
+answered ms = next-move (limits-in 0) (concat ms) every (replicate scratch-entries 0) .answer
 
 -- the memories after a move
 moved : List (List ℕ) → Move → List (List ℕ)
 unfolding played request
-moved ms t = played ms (request (t .donor) (t .recipient) (t .serial)) .memories
+moved ms t = played 0 ms (request (t .donor) (t .recipient) (t .serial)) .memories
 
 -- how many moves are made, n at the most, with 100 more for level at the end, 200 for blocked, 300 for a refusal
 abbrev after-next : (Move → ℕ) → NextMove → ℕ

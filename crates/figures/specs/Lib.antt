@@ -1,2 +1,3 @@
 pub mod Figures
 pub mod Counts
+pub mod Viewers

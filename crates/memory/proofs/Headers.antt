@@ -1,17 +1,17 @@
 -- The header stored, a part cleared, and the image of an empty block. Assumes nothing.
-use Prim.Native.Nat.{ℕ, _+_, _*_, _-_, _≤_, _<_}
+use Prim.Native.Nat.{ℕ, _+_, _*_, _-_, _/_, _%_, _^_, _≤_, _<_}
 use mathlib.Core.Path.{_≡_, refl, sym, ap, _∙_}
 use mathlib.Core.List.{List, [], _∷_, _++_}
 use native.Mathlib.Omega.{arith}
 use native.Mathlib.Numerals.{add-one}
 use lib.ListN.{length, take, drop, set, replicate, length-set, replicate-append-replicate}
 use lib.Seq.{sets-eq, take-suc-set, take-all}
-use borrow.Author.Tests.{eq-eqb, ne-eqb, le-leb, lt-leb}
+use borrow.Author.Tests.{eq-eqb, ne-eqb, le-leb, lt-leb, lt-ltb, le-ltb}
 use Rattle.laws.proofs.Lists.{drop-zeros}
 use Rattle.model.specs.Lists.{concat}
 use Rattle.model.specs.Cells.{labels}
 use Rattle.model.specs.Image.{words-of, image, new-block}
-use Rattle.model.specs.Values.{room, Limits, rack}
+use Rattle.model.specs.Values.{room, Limits, rack, viewer, is-viewer, limits-in}
 use Rattle.memory.specs.Header.{empty-header, header-words, limits-of}
 use Rattle.memory.specs.declared.header.Header.{Header}
 use Rattle.memory.specs.declared.header.Limits as header
@@ -59,6 +59,23 @@ empty-image n m {x} {y} {h} l e g f =
 -- the rack's blocks are the widest
 pub rack-fits : (l : header.Limits) → limits-of l ≡ rack → l .block ≤ room
 rack-fits l e = omega (arith, ap (λ (x : Limits). x .block-darts) e)
+
+pub viewer-fits : (l : header.Limits) → limits-of l ≡ viewer → l .block ≤ room
+viewer-fits l e = omega (arith, ap (λ (x : Limits). x .block-darts) e)
+
+-- which limits a block has, by the viewers' bits
+module _ (viewers n : ℕ) where
+  pub none-from-16 : 16 ≤ n → limits-in viewers n ≡ rack
+  unfolding limits-in is-viewer
+  none-from-16 h = rw (le-ltb n 16 h)
+
+  pub bit-set : n < 16 → viewers / 2 ^ n % 2 ≡ 1 → limits-in viewers n ≡ viewer
+  unfolding limits-in is-viewer
+  bit-set h e = rw (lt-ltb n 16 h, eq-eqb (viewers / 2 ^ n % 2) 1 e)
+
+  pub bit-clear : n < 16 → (viewers / 2 ^ n % 2 ≡ 1 → ⊥) → limits-in viewers n ≡ rack
+  unfolding limits-in is-viewer
+  bit-clear h e = rw (lt-ltb n 16 h, ne-eqb (viewers / 2 ^ n % 2) 1 e)
 
 -- the questions of an empty block, by any limits
 module _ (lim : Limits) (n : ℕ) (m : List ℕ) where

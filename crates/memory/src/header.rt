@@ -6,7 +6,7 @@ ghost use lib.ListN.{length, drop, replicate};
 ghost use Rattle.model.specs.Calls as calls;
 ghost use Rattle.answers.specs.Answers.{answer-of, Gives};
 ghost use Rattle.model.specs.Image.{words-of, image, new-block};
-ghost use Rattle.model.specs.Values.{room, rack};
+ghost use Rattle.model.specs.Values.{room, rack, viewer, limits-in};
 ghost use Rattle.memory.specs.Header.{empty-header, header-in, header-words, limits-of};
 use answers::Answer;
 use answers::Refusal;
@@ -27,6 +27,13 @@ impl Header {
 
     // Darts that a volume may have that is sent.
     pub const VOLUME: usize = 512;
+
+    // The same of a viewer's block, and the words of its memory.
+    pub const VIEWER_DARTS: usize = 256;
+
+    pub const VIEWER_VOLUME: usize = 64;
+
+    pub const VIEWER_WORDS: usize = 2056;
 
     // Blocks that a mesh may have: numbers lie below this.
     pub const BLOCKS: u64 = 16;
@@ -118,6 +125,29 @@ impl Limits {
             block: Header::DARTS,
             volume: Header::VOLUME,
         }
+    }
+
+    // Of the office's machine.
+    pub fn viewer() -> Limits
+        ensures { λ r. ⌜ limits-of r ≡ viewer ⌝ }
+    {
+        Limits {
+            block: Header::VIEWER_DARTS,
+            volume: Header::VIEWER_VOLUME,
+        }
+    }
+
+    // Of the block with this number in a mesh with these viewers: bit b is block b's.
+    pub fn among(viewers: u32, number: u64) -> Limits
+        ensures { λ r. ⌜ limits-of r ≡ limits-in viewers number ⌝ }
+    {
+        if Header::BLOCKS <= number {
+            return Limits::rack();
+        }
+        if (viewers as u64 >> number) % 2 == 1 {
+            return Limits::viewer();
+        }
+        Limits::rack()
     }
 
     // Words of a block's memory.

@@ -13,11 +13,11 @@ use Rattle.laws.proofs.Tables.{length-tab, map-tab, getD-tab}
 use Rattle.model.specs.Lists.{all, tab}
 use Rattle.model.specs.Values.{Block}
 use Rattle.model.specs.Sound.{numbered-from, blocks-right}
-use Rattle.model.specs.Image.{words, block-in, holds-block}
+use Rattle.model.specs.Image.{words, block-in}
 use Rattle.model.specs.Calls.{memories, mesh-lent, scratch-entries}
 use Rattle.columns.specs.Columns.{all-below}
 use Rattle.columns.proofs.Below.{below-at, at-below, below-none, below-step, all-is}
-use Rattle.mesh.specs.Parts.{block-count, part, number-test}
+use Rattle.mesh.specs.Parts.{block-count, part, sound-memory, number-test}
 
 -- THE PARTS
 -- the part from one end to the other
@@ -75,12 +75,12 @@ module _ (m s : List ℕ) where
   lent-zeros e f g = all-three (eqb (length m / words * words) (length m)) (eqb (length s) scratch-entries) (all (eqb 0) s) (eq-eqb _ _ e) (eq-eqb _ _ f) g
 
 -- 2
-abbrev pub sound-test : List ℕ → ℕ → Bool
-sound-test m i = holds-block (part m i)
+abbrev pub sound-test : ℕ → List ℕ → ℕ → Bool
+sound-test viewers m i = sound-memory viewers (part m i)
 
-pub sound-is : (m : List ℕ) → all-below (sound-test m) (block-count m) ≡ all (λ b. holds-block b) (memories m)
+pub sound-is : (viewers : ℕ) (m : List ℕ) → all-below (sound-test viewers m) (block-count m) ≡ all (sound-memory viewers) (memories m)
 unfolding memories
-sound-is m = all-is (λ b. holds-block b) (part m) (length m / words)
+sound-is viewers m = all-is (sound-memory viewers) (part m) (length m / words)
 
 -- 23
 pub numbered-at : (g : ℕ → Block) (n i : ℕ) → numbered-from i (tab g n) ≡ true → (p : ℕ) → p < n → eqb (g p .number) (i + p) ≡ true

@@ -7,8 +7,8 @@ use lib.Dec.{eqb, ltb}
 use lib.ListN.{length, getD, take, drop}
 use Rattle.model.specs.Lists.{tab}
 use Rattle.columns.specs.Columns.{all-below}
-use Rattle.model.specs.Image.{label-in, words, column, is-free-word, is-sewn-word}
-use Rattle.model.specs.Values.{room}
+use Rattle.model.specs.Image.{label-in, words, column, is-free-word, is-sewn-word, is-image}
+use Rattle.model.specs.Values.{room, limits-in}
 
 -- how many blocks
 abbrev pub block-count : List ℕ → ℕ
@@ -17,6 +17,10 @@ block-count m = length m / words
 -- the memory of block i
 abbrev pub part : List ℕ → ℕ → List ℕ
 part m i = take words (drop (i * words) m)
+
+-- 2: whether each memory is a sound block's, by the limits that its number has among these viewers
+abbrev pub sound-memory : ℕ → List ℕ → Bool
+sound-memory viewers b = is-image (limits-in viewers (getD b 0 0)) b
 
 -- block i has its place as its number
 abbrev pub number-test : List ℕ → ℕ → Bool

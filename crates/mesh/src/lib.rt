@@ -9,11 +9,12 @@ ghost use lib.ListN.{length};
 ghost use mathlib.Core.List.{map};
 ghost use Rattle.model.specs.Lists.{all};
 ghost use Rattle.model.specs.Sound.{blocks-right as right-blocks};
-ghost use Rattle.model.specs.Image.{block-in, holds-block};
+ghost use Rattle.model.specs.Image.{words, block-in};
 ghost use Rattle.model.specs.Calls.{memories, mesh-lent as lent, scratch-entries};
 ghost use Rattle.columns.specs.Columns.{all-below};
-ghost use Rattle.mesh.specs.Parts.{block-count, part, number-test};
+ghost use Rattle.mesh.specs.Parts.{block-count, part, sound-memory, number-test};
 use memory::header::Header;
+use memory::header::Limits;
 
 // Whether all entries are zero.
 fn zeros(scratch: &[u64]) -> bool
@@ -62,23 +63,35 @@ pub fn part_mut<'a>(mesh: &'a mut [u64], i: usize) -> &'a mut [u64]
     &mut mesh[from..to]
 }
 
-// Whether block i is sound.
-fn sound_at(mesh: &[u64], i: usize) -> bool
-    requires { ⌜ i < block-count (now mesh) ⌝ }
-    ensures { λ r. ⌜ r ≡ holds-block (part (now (mesh .entry)) i) ⌝ }
+// Whether memory of a block's size is sound by the limits that its number has among these viewers.
+fn sound_among(block: &[u64], viewers: u32) -> bool
+    requires { ⌜ length (now block) ≡ words ⌝ }
+    ensures { λ r. ⌜ r ≡ sound-memory viewers (now (block .entry)) ⌝ }
 {
-    sound::is_sound(part_of(mesh, i))
+    if !sound::is_sound(block) {
+        return false;
+    }
+    let limits = Limits::among(viewers, block[Header::NUMBER]);
+    block[Header::COUNT] <= limits.block as u64
 }
 
-// 2: is each part a sound block's image?
-pub fn all_sound(mesh: &[u64]) -> bool
-    ensures { λ r. ⌜ r ≡ all (λ b. holds-block b) (memories (now (mesh .entry))) ⌝ }
+// Whether block i is sound.
+fn sound_at(mesh: &[u64], viewers: u32, i: usize) -> bool
+    requires { ⌜ i < block-count (now mesh) ⌝ }
+    ensures { λ r. ⌜ r ≡ sound-memory viewers (part (now (mesh .entry)) i) ⌝ }
+{
+    sound_among(part_of(mesh, i), viewers)
+}
+
+// 2: is each part a sound block's image, by the limits of its number?
+pub fn all_sound(mesh: &[u64], viewers: u32) -> bool
+    ensures { λ r. ⌜ r ≡ all (sound-memory viewers) (memories (now (mesh .entry))) ⌝ }
 {
     let k = mesh.len() / Header::WORDS;
     // The blocks below i are sound.
     let mut i = 0;
     while i < k {
-        if !sound_at(mesh, i) {
+        if !sound_at(mesh, viewers, i) {
             return false;
         }
         i += 1;

@@ -165,12 +165,12 @@ parts-right b t = indices-right t && all (part2-right (b .darts) t) (t .part2) &
 abbrev pub addressed : ℕ → ℕ → Block → Bool
 addressed from to b = eqb to (b .number) && not (eqb from (b .number))
 
--- 16 to 21, of take
+-- 16 to 21, of take; 29 "when a transfer of more than 64 darts reaches a viewer, put after 17"
 unfoldable pub receive-checks : Limits → Block → Message → List Check
 receive-checks lim b no-message = (16, false) ∷ []
 receive-checks lim b (an-update u) = (17, false) ∷ []
 receive-checks lim b (a-transfer t) =
-    (17, addressed (t .from) (t .to) b) ∷ (18, serials-new (b .darts) t) ∷ (19, volume-right t) ∷ (20, parts-right b t)
+    (17, addressed (t .from) (t .to) b) ∷ (29, leb (size-all (t .faces)) (lim .volume-darts)) ∷ (18, serials-new (b .darts) t) ∷ (19, volume-right t) ∷ (20, parts-right b t)
     ∷ (21, leb (length (b .darts) + size-all (t .faces)) (lim .block-darts)) ∷ []
 
 abbrev pub received-from : Block → Message → Block

@@ -96,7 +96,7 @@ unfoldable pub candidates : Oracle → List Block → List ℕ → List Move
 candidates o m cs = concat-map (λ d. concat-map (λ r. map (λ s. record { donor = d; recipient = r; serial = s }) (picked o (block-at m d .darts)))
     (recipients cs (getD cs d 0))) (tab (λ b. b) (length cs))
 
--- "questions 9 to 14 and 21 answered yes"
+-- "questions 9 to 14 and 21 answered yes"; "64 for a round into or out of" a viewer, "and 256 into it"
 unfoldable pub can-move : (ℕ → Limits) → List Block → Move → Bool
 can-move lims m t =
     let d = t .donor in

@@ -124,7 +124,7 @@ scratch-entries = 65536
 unfoldable pub mesh-lent : ℕ → List ℕ → List ℕ → Bool
 mesh-lent entries m scratch = eqb (length m / words * words) (length m) && eqb (length scratch) entries && all (eqb 0) scratch
 
--- 1, 2, 23 to 27
+-- 1, 2, 23 to 27; a viewer's block, by the number that its memory has, "is sound only with at most 256 darts"
 unfoldable pub whole-mesh-checks : (ℕ → Limits) → List ℕ → List ℕ → List Check
 whole-mesh-checks lims m scratch =
     (1, mesh-lent scratch-entries m scratch) ∷ (2, all (λ b. is-image (lims (getD b 0 0)) b) (memories m)) ∷ mesh-checks (map block-in (memories m))

@@ -1,14 +1,17 @@
 -- START HERE: what is claimed. The three demands, and what the paper says beside them, about the definitions of the calls (Calls) and
 -- of the two runs (DividedRun, UndividedRun). Assumes nothing.
 --
--- HOW TO READ THIS. Words in quotation marks are the dispatcher's or the paper's. Each claim is a type, and holds because a proof of it for
--- the rack's limits is closed, with no hypothesis left over:
---   Demand1                       agreement, Agreement.rack-demand1; of all that C lends: dmap, Keeps.c-keeps
---   Demand2                       agreement, Agreement.rack-demand2
---   Demand3, SameNumbers          agreement, Agreement.rack-agreement, rack-same-numbers
---   LeavesSound, OutboxSuffices   soundness, Served.rack-leaves-sound, OutboxLength.rack-outbox-suffices
---   MoveLowers, MovesEnd          balancing, Lowers.rack-move-lowers, MovesEnd.rack-moves-end
---   LevelMeans                    balancing, Levels.rack-level-means
+-- HOW TO READ THIS. Words in quotation marks are the dispatcher's or the paper's. Each claim is a type over limits, and holds because a proof
+-- of it is closed, with no hypothesis left over: of one block's calls for the rack's limits and for a viewer's, of a mesh for every set of
+-- viewers, `Values.limits-in`:
+--   Demand1                       agreement, Agreement.rack-demand1, viewer-demand1; of all that C lends: dmap, Keeps.c-keeps
+--   Demand2                       agreement, Agreement.rack-demand2, viewer-demand2
+--   Demand3                       agreement, Agreement.mesh-agreement
+--   RoundNumbers, SameNumbers     agreement, Agreement.mesh-round-numbers, mesh-same-numbers
+--   LeavesSound                   soundness, Served.rack-leaves-sound, viewer-leaves-sound
+--   OutboxSuffices                soundness, OutboxLength.rack-outbox-suffices, viewer-outbox-suffices
+--   MoveLowers, MovesEnd          balancing, Lowers.mesh-move-lowers, MovesEnd.mesh-moves-end
+--   LevelMeans                    balancing, Levels.mesh-level-means
 -- The code comes in by its contracts alone: for every input a call's answer, and what was lent to it, equal those of Calls. That a call ends
 -- is proved of every function.
 --
@@ -42,12 +45,12 @@
 -- block, an update would stand behind the transfer, and that block would be told (redirect), before or after let go.
 use mathlib.Core.Path.{_≡_}
 use mathlib.Core.Logic.{_≢_}
-use mathlib.Core.Bool.{true, _&&_}
+use mathlib.Core.Bool.{Bool, true, false, cond, _&&_}
 use mathlib.Core.List.{List, [], _∷_, _++_, map, List·Permᴰ}
 use Prim.Native.Nat.{ℕ, zero, suc, _+_, _/_, _<_, _≤_}
-use lib.Dec.{ltb}
+use lib.Dec.{leb, ltb, eqb}
 use lib.ListN.{length, getD, take, drop}
-use Rattle.model.specs.Lists.{all, mem, concat}
+use Rattle.model.specs.Lists.{all, mem, concat, first-no, Check}
 use Rattle.model.specs.Values.{Block, Limits, Point}
 use Rattle.model.specs.Sound.{Sound, block-at}
 use Rattle.model.specs.Image.{words, words-of, image, memory-of, block-in, is-image}
@@ -56,8 +59,8 @@ use Rattle.model.specs.Messages.{Transfer, Update, transfer, update, a-t
 use Rattle.model.specs.Departure.{transfer-of, updates-of, messages}
 use Rattle.model.specs.Balance.{Oracle, counts, squared-counts, differences, Move, level, move, Balance}
 use Rattle.model.specs.Calls.{served, refused, number-of, Result, empty, read-file, save-file, send, receive, release, redirect, check-mesh, next-move, next-move-by-number}
-use Rattle.model.specs.Runs.{Request, is-refused, finished, unfinished}
-use Rattle.model.specs.UndividedRun.{State, start, whole-map, holder, Undivided, undivided}
+use Rattle.model.specs.Runs.{Request, Outcome, is-refused, refused-by, finished, unfinished}
+use Rattle.model.specs.UndividedRun.{State, start, whole-map, holder, cell, Undivided, undivided, round-checks}
 use Rattle.model.specs.DividedRun.{memory-at, messages-in, Step, last-steps, sent-messages, Round, round}
 
 -- DEMAND 1: "A refused call returns that number only and changes no byte that was lent to it". What is lent by `&` stays because such a slice
@@ -136,9 +139,9 @@ pub record Matches (lims : ℕ → Limits) (ms : List (List ℕ)) (u : State) : 
   pub same-cells : (x : ℕ) → mem x (u .darts) ≡ true → holder mesh x ≡ u .number x
   pub same-counts : (b : ℕ) → b < length mesh → block-at mesh b .counter ≡ u .count b
 
--- what is claimed of a round and an undivided request
+-- what is claimed of a request in a state of the undivided run: of its round, and of what it comes to there
 abbrev pub Claim : Type 1
-Claim = Round → Undivided → Type 0
+Claim = State → Request → Round → Undivided → Type 0
 
 -- "exactly the same requests were refused. The mesh is sound after every request, and every round whose cell was taken finishes"
 pub record Agree (lims : ℕ → Limits) (d : Round) (w : Undivided) : Type 0 where
@@ -155,7 +158,7 @@ abbrev pub After-every : Claim → (ℕ → Limits) → List (List ℕ) → Stat
 After-every claim lims ms u [] = Unit {0}
 After-every claim lims ms u (r ∷ rs) = (outbox : List ℕ) (order : List Step) → Enough lims ms r outbox
     → List·Permᴰ order (last-steps r (sent-messages lims ms r outbox))
-    → claim (round lims ms r outbox order) (undivided lims u r)
+    → claim u r (round lims ms r outbox order) (undivided lims u r)
     × After-every claim lims (round lims ms r outbox order .memories) (undivided lims u r .state) rs
 
 -- "every block named is in the mesh"
@@ -165,12 +168,25 @@ Named k rs = all (λ r. ltb (r .from) k && ltb (r .to) k) rs ≡ true
 -- "Two runs agree on every list of requests to move a cell, refused ones included, started from any sound mesh"
 abbrev pub Demand3 : (ℕ → Limits) → Type 0
 Demand3 lims = (m : List Block) (rs : List Request) → Sound lims m → Named (length m) rs
-    → Matches lims (map (memory-of lims) m) (start m) × After-every (Agree lims) lims (map (memory-of lims) m) (start m) rs
+    → Matches lims (map (memory-of lims) m) (start m) × After-every (λ u r. Agree lims) lims (map (memory-of lims) m) (start m) rs
 
--- and by the same number; with limits that differ a number may differ too, so this stands apart
+-- how a request ends that was asked these questions
+abbrev pub ended : List Check → Outcome
+ended qs = let n = first-no qs in cond (eqb n 0) finished (refused-by n)
+
+-- the number of every round, by the questions that send and receive put
+abbrev pub RoundNumbers : (ℕ → Limits) → Type 0
+RoundNumbers lims = (m : List Block) (rs : List Request) → Sound lims m → Named (length m) rs
+    → After-every (λ u r d w. d .outcome ≡ ended (round-checks lims u r)) lims (map (memory-of lims) m) (start m) rs
+
+-- "a round from a rack into a viewer with a cell of 65 to 512 darts": the sender may send so many, the destination may not take them
+abbrev pub too-large-there : (ℕ → Limits) → State → Request → Bool
+too-large-there lims u r = let n = length (cell u (r .serial)) in leb n (lims (r .from) .volume-darts) && ltb (lims (r .to) .volume-darts) n
+
+-- and by the same number, "for all other rounds"
 abbrev pub SameNumbers : (ℕ → Limits) → Type 0
 SameNumbers lims = (m : List Block) (rs : List Request) → Sound lims m → Named (length m) rs
-    → After-every (λ d w. d .outcome ≡ w .outcome) lims (map (memory-of lims) m) (start m) rs
+    → After-every (λ u r d w. too-large-there lims u r ≡ false → d .outcome ≡ w .outcome) lims (map (memory-of lims) m) (start m) rs
 
 -- THE NEXT MOVE
 abbrev pub request-of : Move → Request

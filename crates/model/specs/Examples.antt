@@ -1,9 +1,10 @@
--- Small examples that are computed: what an empty block is, the order of a coordinate's bytes, a listing, and demand 2 on one block.
+-- Small examples that are computed: what an empty block is, which blocks are viewers', the order of a coordinate's bytes, a listing, and
+-- demand 2 on one block.
 -- Assumes nothing.
 use mathlib.Core.Path.{_≡_, refl}
-use mathlib.Core.List.{[], _∷_, _++_}
+use mathlib.Core.List.{[], _∷_, _++_, map}
 use lib.ListN.{take, replicate}
-use Rattle.model.specs.Values.{free, Block, rack}
+use Rattle.model.specs.Values.{free, Block, rack, viewer, limits-in}
 use Rattle.model.specs.Image.{words, image}
 use Rattle.model.specs.Layouts.{coordinate}
 use Rattle.model.specs.Messages.{file}
@@ -20,6 +21,15 @@ empty-five = refl
 empty-sixteen : empty rack 16 (replicate words 9) ≡ record { answer = refused 9; lent = replicate words 9 }
 unfolding everything
 empty-sixteen = refl
+
+-- blocks 0 and 2 are viewers'; bit 16 is nobody's
+two-viewers : map (limits-in 65541) (0 ∷ 1 ∷ 2 ∷ 15 ∷ 16 ∷ []) ≡ viewer ∷ rack ∷ viewer ∷ rack ∷ rack ∷ []
+unfolding everything
+two-viewers = refl
+
+empty-viewer : empty viewer 5 (replicate 2056 9) ≡ record { answer = served tt; lent = 5 ∷ replicate 2055 0 }
+unfolding everything
+empty-viewer = refl
 
 -- "8 bytes, least significant first": one and a half
 one-and-a-half : coordinate .put 0x3ff8000000000000 ≡ 0 ∷ 0 ∷ 0 ∷ 0 ∷ 0 ∷ 0 ∷ 0xf8 ∷ 0x3f ∷ []

@@ -6,7 +6,7 @@ use mathlib.Core.List.{List, [], _∷_, _++_, map, reverse}
 use Prim.Native.Nat.{ℕ, _+_}
 use lib.ListN.{length, getD, take, replicate}
 use Rattle.model.specs.Lists.{all, same-list}
-use Rattle.model.specs.Values.{Third, free, sewn, critical, Dart, no-point, Block, rack, all-rack}
+use Rattle.model.specs.Values.{Third, free, sewn, critical, Dart, no-point, Block, rack, limits-in}
 use Rattle.model.specs.Cells.{third-at}
 use Rattle.model.specs.Image.{words, image, block-in}
 use Rattle.model.specs.Layouts.{group, group-count, framed}
@@ -55,21 +55,21 @@ pq = image words (block 0 sewn-pillows) ∷ empty rack 1 (replicate words 7) .le
 unfoldable pub outbox : List ℕ
 outbox = replicate 200 165
 
--- a round whose last steps run backwards
-unfoldable pub played : List (List ℕ) → Request → Round
+-- a round whose last steps run backwards, in a mesh with these viewers
+unfoldable pub played : ℕ → List (List ℕ) → Request → Round
 unfolding outbox everything
-played ms r = round all-rack ms r outbox (reverse (last-steps r (sent-messages all-rack ms r outbox)))
+played viewers ms r = let lims = limits-in viewers in round lims ms r outbox (reverse (last-steps r (sent-messages lims ms r outbox)))
 
 unfoldable pub request : ℕ → ℕ → ℕ → Request
 request i j s = record { from = i; to = j; serial = s }
 
 p-sent : Round
 unfolding pq played request everything
-p-sent = played pq (request 0 1 1)
+p-sent = played 0 pq (request 0 1 1)
 
 q-sent : Round
 unfolding p-sent played request everything
-q-sent = played (p-sent .memories) (request 0 1 7)
+q-sent = played 0 (p-sent .memories) (request 0 1 7)
 
 -- AS NUMBERS
 unfoldable pub outcome-numbers : Outcome → List ℕ
@@ -112,12 +112,12 @@ pub two-rounds : List (List ℕ × List ℕ)
 unfolding pq outbox request p-sent q-sent outcome-numbers third-in-block everything
 two-rounds =
     -- "P to block 1: 97 bytes; label 0.0.0 on 1 and 12, 0.0.2 on 3 and 10; counter 1"
-    (outcome-numbers (p-sent .outcome) ++ map length (sent-messages all-rack pq (request 0 1 1) outbox), 0 ∷ 97 ∷ [])
+    (outcome-numbers (p-sent .outcome) ++ map length (sent-messages (limits-in 0) pq (request 0 1 1) outbox), 0 ∷ 97 ∷ [])
     ∷ (third-in-block p-sent 1 1 ++ third-in-block p-sent 0 12, 2 ∷ 0 ∷ 0 ∷ 0 ∷ 0 ∷ 2 ∷ 1 ∷ 0 ∷ 0 ∷ 0 ∷ [])
     ∷ (third-in-block p-sent 1 3 ++ third-in-block p-sent 0 10, 2 ∷ 0 ∷ 0 ∷ 0 ∷ 2 ∷ 2 ∷ 1 ∷ 0 ∷ 0 ∷ 2 ∷ [])
     ∷ (block-in (getD (p-sent .memories) 0 []) .counter ∷ [], 1 ∷ [])
     -- "Then Q: 99 bytes; block 0 empty; 1-12 sewn"
-    ∷ (outcome-numbers (q-sent .outcome) ++ map length (sent-messages all-rack (p-sent .memories) (request 0 1 7) outbox), 0 ∷ 99 ∷ [])
+    ∷ (outcome-numbers (q-sent .outcome) ++ map length (sent-messages (limits-in 0) (p-sent .memories) (request 0 1 7) outbox), 0 ∷ 99 ∷ [])
     ∷ (length (block-in (getD (q-sent .memories) 0 []) .darts) ∷ third-in-block q-sent 1 1 ++ third-in-block q-sent 1 12, 0 ∷ 1 ∷ 12 ∷ 1 ∷ 1 ∷ [])
     ∷ []
 

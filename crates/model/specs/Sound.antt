@@ -144,12 +144,11 @@ sound-mesh lims m = all (λ b. sound-block (lims (b .number)) b) m && passed (me
 abbrev pub Sound : (ℕ → Limits) → List Block → Type 0
 Sound lims m = sound-mesh lims m ≡ true
 
--- LIMITS THAT FIT: none are wider than `widest`. In the base all blocks send volumes of one size at most.
+-- LIMITS THAT FIT: none are wider than `widest`
 pub record Fit (lims : ℕ → Limits) : Type 0 where
   pub block-fits : (b : ℕ) → lims b .block-darts ≤ room
   pub volume-fits : (b : ℕ) → lims b .volume-darts ≤ message-darts
-  pub one-volume-limit : (b c : ℕ) → lims b .volume-darts ≡ lims c .volume-darts
 
--- a volume that goes from block i to block j keeps to the limits of both
+-- "64 for a round into or out of" a viewer: a volume that goes from block i to block j keeps to the limits of both
 abbrev pub volume-limit : (ℕ → Limits) → ℕ → ℕ → ℕ
 volume-limit lims i j = min (lims i .volume-darts) (lims j .volume-darts)

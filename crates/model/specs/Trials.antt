@@ -1,4 +1,4 @@
--- Demand 3 on a small mesh, computed: P and Q in block 0, sewn, and two empty blocks. What each wrong round would break is said beside
+-- Demand 3 on a small mesh, computed: P and Q in block 0, sewn, and two empty blocks; on the rack, and with a viewer among them. What each wrong round would break is said beside
 -- the requests; the edits of this crate that must fail are such rounds. Assumes nothing.
 use mathlib.Core.Path.{_≡_, refl}
 use mathlib.Core.Bool.{Bool, true, false, _&&_}
@@ -6,8 +6,9 @@ use mathlib.Core.List.{List, [], _∷_, map}
 use mathlib.Core.Option.{Option, none, some}
 use Prim.Native.Nat.{ℕ}
 use lib.Dec.{eqb}
+use lib.ListN.{getD}
 use Rattle.model.specs.Lists.{all, same-list, sorted}
-use Rattle.model.specs.Values.{Block, same-point, rack, all-rack}
+use Rattle.model.specs.Values.{Block, same-point, limits-in}
 use Rattle.model.specs.Cells.{serials}
 use Rattle.model.specs.Sound.{sound-mesh, all-darts}
 use Rattle.model.specs.Image.{memory-of, is-image, block-in}
@@ -25,21 +26,21 @@ same-whole (some v) (some w) =
 same-whole none (some w) = false
 same-whole (some v) none = false
 
-matches : List (List ℕ) → State → Bool
+matches : ℕ → List (List ℕ) → State → Bool
 unfolding same-whole everything
-matches ms u = let m = map block-in ms in
-    all (is-image rack) ms && sound-mesh all-rack m && same-list (sorted (serials (all-darts m))) (u .darts)
+matches viewers ms u = let m = map block-in ms in
+    all (λ b. is-image (limits-in viewers (getD b 0 0)) b) ms && sound-mesh (limits-in viewers) m && same-list (sorted (serials (all-darts m))) (u .darts)
     && all (λ x. same-whole (whole-map m x) (u .links x) && eqb (holder m x) (u .number x)) (u .darts)
     && all (λ b. eqb (b .counter) (u .count (b .number))) m
 
 -- after every request
-agree : List (List ℕ) → State → List Request → Bool
+agree : ℕ → List (List ℕ) → State → List Request → Bool
 unfolding matches outcome-numbers played everything
-agree ms u [] = matches ms u
-agree ms u (r ∷ rs) =
-    let d = played ms r in
-    let w = undivided all-rack u r in
-    matches ms u && same-list (outcome-numbers (d .outcome)) (outcome-numbers (w .outcome)) && agree (d .memories) (w .state) rs
+agree viewers ms u [] = matches viewers ms u
+agree viewers ms u (r ∷ rs) =
+    let d = played viewers ms r in
+    let w = undivided (limits-in viewers) u r in
+    matches viewers ms u && same-list (outcome-numbers (d .outcome)) (outcome-numbers (w .outcome)) && agree viewers (d .memories) (w .state) rs
 
 three : List Block
 unfolding block sewn-pillows
@@ -60,6 +61,11 @@ requests =
     -- both are sewn in block 2; and P back, under a number of block 2
     ∷ request 2 0 1 ∷ []
 
-three-agree : agree (map (memory-of all-rack) three) (start three) requests ≡ true
+three-agree : agree 0 (map (memory-of (limits-in 0)) three) (start three) requests ≡ true
 unfolding three requests agree everything
 three-agree = refl
+
+-- block 1 a viewer's
+viewer-agrees : agree 2 (map (memory-of (limits-in 2)) three) (start three) requests ≡ true
+unfolding three requests agree everything
+viewer-agrees = refl

@@ -1,6 +1,6 @@
 -- The undivided run: the whole map of a mesh, a block number for each cell, a count for each block. Assumes nothing.
 use mathlib.Core.Bool.{Bool, cond, not, _&&_}
-use mathlib.Core.List.{List, [], _∷_}
+use mathlib.Core.List.{List, [], _∷_, _++_}
 use mathlib.Core.Option.{Option, none, some, Option·map}
 use Prim.Native.Nat.{ℕ, _+_}
 use lib.Dec.{leb, ltb, eqb}
@@ -72,17 +72,23 @@ cell u s = let v = volume (nx u) (op u) s in keep (λ x. mem x v) (u .darts)
 unfoldable pub inner-faces : State → ℕ → List ℕ → ℕ
 inner-faces u i v = length (keep (λ f. let y = th u (start-of f) in not (eqb y 0) && not (mem y v) && eqb (u .number y) i) (faces (nx u) v))
 
--- "A request is refused at the first no"
-unfoldable pub request-checks : (ℕ → Limits) → State → Request → List Check
-request-checks lims u r =
+-- 9 to 14, of a cell of at most `most` darts
+abbrev pub leaving-checks : ℕ → State → Request → List Check
+leaving-checks most u r =
     let i = r .from in
-    let j = r .to in
     let v = cell u (r .serial) in
-    (9, not (eqb j i)) ∷ (10, mem (r .serial) (u .darts) && eqb (u .number (r .serial)) i) ∷ (11, leb (length v) (volume-limit lims i j))
+    (9, not (eqb (r .to) i)) ∷ (10, mem (r .serial) (u .darts) && eqb (u .number (r .serial)) i) ∷ (11, leb (length v) most)
     ∷ (12, all (λ x. not (mem (th u x) v)) v)
     ∷ (13, pairs-once (vertex-pairs (nx u) (op u) v))
-    ∷ (14, ltb (u .count i + inner-faces u i v) number-bound)
-    ∷ (21, leb (length (keep (λ x. eqb (u .number x) j) (u .darts)) + length v) (lims j .block-darts)) ∷ []
+    ∷ (14, ltb (u .count i + inner-faces u i v) number-bound) ∷ []
+
+-- 21: "Have the cells numbered j, with this one, at most 4,096 darts?", a viewer's 256
+abbrev pub has-room : (ℕ → Limits) → State → Request → Bool
+has-room lims u r = leb (length (keep (λ x. eqb (u .number x) (r .to)) (u .darts)) + length (cell u (r .serial))) (lims (r .to) .block-darts)
+
+-- "A request is refused at the first no"
+unfoldable pub request-checks : (ℕ → Limits) → State → Request → List Check
+request-checks lims u r = leaving-checks (volume-limit lims (r .from) (r .to)) u r ++ (21, has-room lims u r) ∷ []
 
 -- "Any other makes the cell's number j and adds g to i's count; all else stays"
 unfoldable pub after-move : State → Request → State
@@ -106,3 +112,8 @@ undivided lims u r =
     let n = first-no (request-checks lims u r) in
     let moved : Undivided = record { outcome = finished; state = after-move u r } in
     cond (eqb n 0) moved (record { outcome = refused-by n; state = u })
+
+-- THE QUESTIONS OF A ROUND, told of the same state: send reads its own block's limits in 11, and receive the limits of its block in 29
+unfoldable pub round-checks : (ℕ → Limits) → State → Request → List Check
+round-checks lims u r = leaving-checks (lims (r .from) .volume-darts) u r
+    ++ (29, leb (length (cell u (r .serial))) (lims (r .to) .volume-darts)) ∷ (21, has-room lims u r) ∷ []

@@ -1,5 +1,5 @@
 -- What a mesh is made of: points, labels, third links, darts, blocks; and the limits. Assumes nothing.
-use mathlib.Core.Bool.{Bool, true, false, _&&_}
+use mathlib.Core.Bool.{Bool, true, false, cond, _&&_}
 use mathlib.Core.List.{List, []}
 use mathlib.Core.Option.{Option, none, some}
 use Prim.Native.Nat.{ℕ, suc, _+_, _*_, _/_, _%_, _^_}
@@ -75,13 +75,21 @@ pub record Limits : Type 0 where
 abbrev pub rack : Limits
 rack = record { block-darts = 4096; volume-darts = 512 }
 
+-- of the office's machine: "256 darts to a block, 64 to a volume"
+abbrev pub viewer : Limits
+viewer = record { block-darts = 256; volume-darts = 64 }
+
 -- no block's are wider
 abbrev pub widest : Limits
 widest = record { block-darts = room; volume-darts = message-darts }
 
+-- "A mesh says which of its blocks are viewers'": by the bits of a number, bit b for block b; there is no block from 16 on
+unfoldable pub is-viewer : ℕ → ℕ → Bool
+is-viewer viewers b = ltb b blocks && eqb (viewers / 2 ^ b % 2) 1
+
 -- in a mesh and in a run the limits go by the block's number
-abbrev pub all-rack : ℕ → Limits
-all-rack b = rack
+unfoldable pub limits-in : ℕ → ℕ → Limits
+limits-in viewers b = cond (is-viewer viewers b) viewer rack
 
 -- LABELS are compared by their code, which orders them "in that way": maker, number, position
 unfoldable pub code : Label → ℕ

@@ -1,3 +1,4 @@
+pub mod Rooms
 pub mod Turns
 pub mod Carried
 pub mod Moving

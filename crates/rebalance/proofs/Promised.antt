@@ -5,8 +5,8 @@ use Prim.Native.Nat.{ℕ, suc, _+_, _*_, _/_}
 use native.Mathlib.Omega.{arith}
 use lib.ListN.{length, getD, take}
 use Rattle.model.specs.Lists.{tab}
-use Rattle.model.specs.Image.{words, image}
-use Rattle.model.specs.Values.{Block}
+use Rattle.model.specs.Image.{memory-of}
+use Rattle.model.specs.Values.{Block, limits-in}
 use Rattle.model.specs.Balance.{Oracle, Move}
 use Rattle.model.specs.Runs.{Request}
 use Rattle.laws.proofs.Tables.{tab-cong}
@@ -40,20 +40,20 @@ unfolding numbers-of
 read-again [] l = refl
 read-again (t ∷ ts) l = ap (take (suc (length ts))) (one-first (t .donor) (t .recipient) (t .serial) (numbers-of ts ++ l)) ∙ ap (λ (rs : List Request). as-request t ∷ rs) (read-again ts l)
 
-ended-as : {n : ℕ} {bs : List Block} {o : Oracle} {s t : Stop} {c d : ℕ} {after : List Block} → s ≡ t → c ≡ d → EndedAs n bs o t d after → EndedAs n bs o s c after
-ended-as {n} {bs} {o} {s} {t} {c} {d} {after} e f w = subst (λ (x : Stop). EndedAs n bs o x c after) (sym e) (subst (λ (x : ℕ). EndedAs n bs o t x after) (sym f) w)
+ended-as : {viewers n : ℕ} {bs : List Block} {o : Oracle} {s t : Stop} {c d : ℕ} {after : List Block} → s ≡ t → c ≡ d → EndedAs viewers n bs o t d after → EndedAs viewers n bs o s c after
+ended-as {viewers} {n} {bs} {o} {s} {t} {c} {d} {after} e f w = subst (λ (x : Stop). EndedAs viewers n bs o x c after) (sym e) (subst (λ (x : ℕ). EndedAs viewers n bs o t x after) (sym f) w)
 
 pub promise : BalancingPromise
-promise bs o m scratch outbox moves b m′ scratch′ outbox′ moves′ sound lent L p =
+promise viewers bs o m scratch outbox moves b m′ scratch′ outbox′ moves′ sound lent L p =
     let n = length moves / 3 in
-    let r = balanced n m o scratch outbox in
-    let w : Levels n bs o scratch outbox r =
-    subst (λ (x : List ℕ). Levels n bs o scratch outbox (balanced n x o scratch outbox)) (sym lent) (ends-well-at n bs o scratch outbox sound L) in
+    let r = balanced viewers n m o scratch outbox in
+    let w : Levels viewers n bs o scratch outbox r =
+    subst (λ (x : List ℕ). Levels viewers n bs o scratch outbox (balanced viewers n x o scratch outbox)) (sym lent) (ends-well-at viewers n bs o scratch outbox sound L) in
     let written : take (count-of b) (requests-in moves′) ≡ map as-request (r .moves) =
     ap (λ (n : ℕ). take n (requests-in moves′)) (p .count-is) ∙ ap (λ (l : List ℕ). take (length (r .moves)) (requests-in l)) (p .moves-are) ∙ read-again (r .moves) _ in
     record {
       after = w .after;
       ended = ended-as (p .stop-is) (p .count-is) (w .ended);
       mesh-is = p .mesh-is ∙ w .mesh-is;
-      played-again = ap (λ (rs : List Request). list.played-run (map (image words) bs) outbox rs .memories) written ∙ w .memories-again;
+      played-again = ap (λ (rs : List Request). list.played-run viewers (map (memory-of (limits-in viewers)) bs) outbox rs .memories) written ∙ w .memories-again;
     }

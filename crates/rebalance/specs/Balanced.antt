@@ -2,13 +2,15 @@
 use mathlib.Core.Path.{_≡_}
 use mathlib.Core.List.{List, [], _∷_, _++_}
 use Prim.Native.Nat.{ℕ, zero, suc, _+_, _*_, _/_}
-use lib.ListN.{length, set}
-use Rattle.model.specs.Lists.{concat}
+use lib.ListN.{length, getD, set, drop}
+use Rattle.model.specs.Lists.{concat, tab}
+use Rattle.model.specs.Values.{limits-in}
+use Rattle.model.specs.Image.{words, words-of}
 use Rattle.model.specs.Balance as balance
 use Rattle.model.specs.Balance.{Oracle, NextMove, Move}
 use Rattle.model.specs.Calls.{Answer, served, refused}
 use Rattle.answers.specs.Answers.{question}
-use Rattle.rounds.specs.Played.{left-over}
+use Rattle.mesh.specs.Parts.{part}
 use Rattle.rounds.specs.Requests.{over-words}
 use Rattle.rebalance.specs.Turn as step
 use Rattle.rebalance.specs.Turn.{End, asked-next, turn}
@@ -37,9 +39,13 @@ stopped e m outbox = record { stop = e; moves = []; mesh = m; outbox = outbox }
 abbrev pub moved-first : Move → BalancingRun → BalancingRun
 moved-first t r = record { stop = r .stop; moves = t ∷ r .moves; mesh = r .mesh; outbox = r .outbox }
 
--- a mesh with these memories for its blocks; what stands behind the last whole block stays
-abbrev pub with-memories : List ℕ → List (List ℕ) → List ℕ
-with-memories m ms = concat ms ++ left-over m
+-- what stands behind the last whole block
+abbrev pub left-over : List ℕ → List ℕ
+left-over m = drop (length m / words * words) m
+
+-- a mesh with these memories for its blocks; the words that no block's memory has stay
+unfoldable pub with-memories : ℕ → List ℕ → List (List ℕ) → List ℕ
+with-memories viewers m ms = concat (tab (λ i. getD ms i [] ++ drop (words-of (limits-in viewers i)) (part m i)) (length m / words)) ++ left-over m
 
 -- where there is no room the next move is asked for and not carried out
 abbrev pub stop-by : Answer NextMove → Stop
@@ -57,12 +63,12 @@ after-step (step.unfinished t) m outbox rest = stopped unfinished m outbox
 after-step (step.refused-by n) m outbox rest = stopped (refused-by n) m outbox
 
 -- n moves at the most
-unfoldable pub balanced : ℕ → List ℕ → Oracle → List ℕ → List ℕ → BalancingRun
-balanced zero m o scratch outbox = stopped (stop-by (asked-next m o scratch)) m outbox
-balanced (suc n) m o scratch outbox =
-    let t = turn m o scratch outbox in
-    let m′ = with-memories m (t .memories) in
-    let rest = balanced n m′ o scratch (t .outbox) in
+unfoldable pub balanced : ℕ → ℕ → List ℕ → Oracle → List ℕ → List ℕ → BalancingRun
+balanced viewers zero m o scratch outbox = stopped (stop-by (asked-next viewers m o scratch)) m outbox
+balanced viewers (suc n) m o scratch outbox =
+    let t = turn viewers m o scratch outbox in
+    let m′ = with-memories viewers m (t .memories) in
+    let rest = balanced viewers n m′ o scratch (t .outbox) in
     after-step (t .ending) m′ (t .outbox) rest
 
 -- moves as numbers, three for each, as requests are written
@@ -90,8 +96,8 @@ count-of (balanced-as.Unfinished n) = n
 count-of (balanced-as.Refused n q) = n
 
 -- the next move asked for and not carried out, after n moves
-pub record TurnAsked (m : List ℕ) (o : Oracle) (scratch : List ℕ) (n : ℕ) (b : Balanced) (scratch′ : List ℕ) : Type 0 where
-  pub stop-is : stop-of b ≡ stop-by (asked-next m o scratch)
+pub record TurnAsked (viewers : ℕ) (m : List ℕ) (o : Oracle) (scratch : List ℕ) (n : ℕ) (b : Balanced) (scratch′ : List ℕ) : Type 0 where
+  pub stop-is : stop-of b ≡ stop-by (asked-next viewers m o scratch)
   pub count-is : count-of b ≡ n
   pub scratch-is : scratch′ ≡ scratch
 
@@ -105,6 +111,6 @@ pub record Ensured (r : BalancingRun) (scratch moves : List ℕ) (b : Balanced) 
   pub moves-are : moves′ ≡ over-words (numbers-of (r .moves)) moves
 
 -- as many moves as there is room for
-abbrev pub Balances : List ℕ → Oracle → List ℕ → List ℕ → List ℕ → Balanced → List ℕ → List ℕ → List ℕ → List ℕ → Type 0
-Balances m o scratch outbox moves b m′ scratch′ outbox′ moves′ =
-    Ensured (balanced (length moves / 3) m o scratch outbox) scratch moves b m′ scratch′ outbox′ moves′
+abbrev pub Balances : ℕ → List ℕ → Oracle → List ℕ → List ℕ → List ℕ → Balanced → List ℕ → List ℕ → List ℕ → List ℕ → Type 0
+Balances viewers m o scratch outbox moves b m′ scratch′ outbox′ moves′ =
+    Ensured (balanced viewers (length moves / 3) m o scratch outbox) scratch moves b m′ scratch′ outbox′ moves′

@@ -2,15 +2,13 @@
 use mathlib.Core.Path.{_≡_}
 use mathlib.Core.List.{List}
 use Prim.Native.Nat.{ℕ}
-use lib.ListN.{length}
-use Rattle.model.specs.Values.{rack, all-rack}
+use Rattle.model.specs.Values.{limits-in}
 use Rattle.model.specs.Balance as balance
 use Rattle.model.specs.Balance.{Oracle, NextMove, Move, Balance}
-use Rattle.model.specs.Calls.{Answer, served, refused, memories, send, next-move}
+use Rattle.model.specs.Calls.{Answer, served, refused, next-move}
 use Rattle.model.specs.Runs as runs
-use Rattle.model.specs.DividedRun.{memory-at}
 use Rattle.answers.specs.Answers.{question}
-use Rattle.rounds.specs.Played.{left-over, asks-for, round-in-order}
+use Rattle.rounds.specs.Played.{own-memories, Elsewhere, asks-for, round-in-order, outbox-after}
 use Rattle.rebalance.specs.declared.Ending.{Ending}
 use Rattle.rebalance.specs.declared.Ending.the-variants as ending
 
@@ -45,18 +43,18 @@ pub record Turn : Type 0 where
   pub memories : List (List ℕ)
   pub outbox : List ℕ
 
-abbrev pub still : List ℕ → List ℕ → End → Turn
-still m outbox e = record { ending = e; memories = memories m; outbox = outbox }
+abbrev pub still : ℕ → List ℕ → List ℕ → End → Turn
+still viewers m outbox e = record { ending = e; memories = own-memories viewers m; outbox = outbox }
 
 -- the round of a move
-unfoldable pub round-turn : List ℕ → List ℕ → Move → Turn
-round-turn m outbox t =
+unfoldable pub round-turn : ℕ → List ℕ → List ℕ → Move → Turn
+round-turn viewers m outbox t =
     let asked = asks-for (t .donor) (t .recipient) (t .serial) in
-    let r = round-in-order (memories m) asked outbox in
+    let r = round-in-order viewers (own-memories viewers m) asked outbox in
     record {
       ending = ending-by t (r .outcome);
       memories = r .memories;
-      outbox = send rack (memory-at (memories m) (t .donor)) (t .recipient) (t .serial) outbox .lent;
+      outbox = outbox-after viewers (own-memories viewers m) asked outbox;
     }
 
 -- the move of an answer, without what stands beside it
@@ -64,28 +62,27 @@ abbrev pub next-answer : Answer Balance → Answer NextMove
 next-answer (served b) = served (b .next)
 next-answer (refused n) = refused n
 
-abbrev pub asked-next : List ℕ → Oracle → List ℕ → Answer NextMove
-asked-next m o scratch = next-answer (next-move all-rack m o scratch .answer)
+abbrev pub asked-next : ℕ → List ℕ → Oracle → List ℕ → Answer NextMove
+asked-next viewers m o scratch = next-answer (next-move (limits-in viewers) m o scratch .answer)
 
 -- where there is no move nothing changes
-abbrev pub turn-by : List ℕ → List ℕ → Answer NextMove → Turn
-turn-by m outbox (served balance.level) = still m outbox level
-turn-by m outbox (served balance.blocked) = still m outbox blocked
-turn-by m outbox (served (balance.move t)) = round-turn m outbox t
-turn-by m outbox (refused n) = still m outbox (refused-by n)
+abbrev pub turn-by : ℕ → List ℕ → List ℕ → Answer NextMove → Turn
+turn-by viewers m outbox (served balance.level) = still viewers m outbox level
+turn-by viewers m outbox (served balance.blocked) = still viewers m outbox blocked
+turn-by viewers m outbox (served (balance.move t)) = round-turn viewers m outbox t
+turn-by viewers m outbox (refused n) = still viewers m outbox (refused-by n)
 
-unfoldable pub turn : List ℕ → Oracle → List ℕ → List ℕ → Turn
-turn m o scratch outbox = turn-by m outbox (asked-next m o scratch)
+unfoldable pub turn : ℕ → List ℕ → Oracle → List ℕ → List ℕ → Turn
+turn viewers m o scratch outbox = turn-by viewers m outbox (asked-next viewers m o scratch)
 
--- a turn of a mesh: how it ended, the mesh and the outbox afterwards; what stands behind the last whole block stays
-pub record TurnEnded (t : Turn) (m : List ℕ) (s : Ending) (m′ outbox′ : List ℕ) : Type 0 where
+-- a turn of a mesh: how it ended, the mesh and the outbox afterwards; the words that no block's memory has stay
+pub record TurnEnded (viewers : ℕ) (t : Turn) (m : List ℕ) (s : Ending) (m′ outbox′ : List ℕ) : Type 0 where
   pub ending-is : ending-of s ≡ t .ending
-  pub memories-are : memories m′ ≡ t .memories
-  pub size : length m′ ≡ length m
-  pub left : left-over m′ ≡ left-over m
+  pub memories-are : own-memories viewers m′ ≡ t .memories
+  pub elsewhere : Elsewhere viewers m m′
   pub outbox-is : outbox′ ≡ t .outbox
 
 -- a step; the scratch is as next move leaves it
-pub record Levelled (m : List ℕ) (o : Oracle) (scratch outbox : List ℕ) (s : Ending) (m′ scratch′ outbox′ : List ℕ) : Type 0 where
-  pub ended : TurnEnded (turn m o scratch outbox) m s m′ outbox′
-  pub scratch-is : scratch′ ≡ next-move all-rack m o scratch .lent
+pub record Levelled (viewers : ℕ) (m : List ℕ) (o : Oracle) (scratch outbox : List ℕ) (s : Ending) (m′ scratch′ outbox′ : List ℕ) : Type 0 where
+  pub ended : TurnEnded viewers (turn viewers m o scratch outbox) m s m′ outbox′
+  pub scratch-is : scratch′ ≡ next-move (limits-in viewers) m o scratch .lent

@@ -22,27 +22,47 @@ pub enum Ending {
 }
 
 // The round of a move.
-fn carry_out(mesh: &mut [u64], donor: u32, recipient: u32, serial: u64, outbox: &mut [u8]) -> Ending
-    ensures { λ r. ⌜ TurnEnded (round-turn (now (mesh .entry)) (now (outbox .entry)) (a-move donor recipient serial)) (now (mesh .entry)) r (now (mesh .exit)) (now (outbox .exit)) ⌝ }
+fn carry_out(
+    mesh: &mut [u64],
+    viewers: u32,
+    donor: u32,
+    recipient: u32,
+    serial: u64,
+    outbox: &mut [u8],
+) -> Ending
+    ensures { λ r. ⌜ TurnEnded viewers (round-turn viewers (now (mesh .entry)) (now (outbox .entry)) (a-move donor recipient serial)) (now (mesh .entry)) r (now (mesh .exit)) (now (outbox .exit)) ⌝ }
 {
-    match rounds::play(mesh, donor as u64, recipient as u64, serial, outbox) {
+    match rounds::play(
+        mesh,
+        viewers,
+        donor as u64,
+        recipient as u64,
+        serial,
+        outbox,
+    ) {
         Outcome::Finished => Ending::Moved(donor, recipient, serial),
         Outcome::Unfinished => Ending::Unfinished(donor, recipient, serial),
         Outcome::Refused(r) => Ending::Refused(r),
     }
 }
 
-// One step of balancing a mesh by an oracle.
-pub fn step(mesh: &mut [u64], o: Oracle, scratch: &mut [u64], outbox: &mut [u8]) -> Ending
-    ensures { λ r. ⌜ Levelled (now (mesh .entry)) (oracle-of o) (now (scratch .entry)) (now (outbox .entry)) r (now (mesh .exit)) (now (scratch .exit)) (now (outbox .exit)) ⌝ }
+// One step of balancing a mesh by an oracle. Bit b of `viewers` says that block b is a viewer's.
+pub fn step(
+    mesh: &mut [u64],
+    viewers: u32,
+    o: Oracle,
+    scratch: &mut [u64],
+    outbox: &mut [u8],
+) -> Ending
+    ensures { λ r. ⌜ Levelled viewers (now (mesh .entry)) (oracle-of o) (now (scratch .entry)) (now (outbox .entry)) r (now (mesh .exit)) (now (scratch .exit)) (now (outbox .exit)) ⌝ }
 {
-    let b = balance::nextmove::next_move(mesh, o, scratch);
+    let b = balance::nextmove::next_move(mesh, viewers, o, scratch);
     let next = b.next;
     match next {
         NextMove::Level => Ending::Level,
         NextMove::Blocked => Ending::Blocked,
         NextMove::Move(donor, recipient, serial) => {
-            carry_out(mesh, donor, recipient, serial, outbox)
+            carry_out(mesh, viewers, donor, recipient, serial, outbox)
         }
         NextMove::Refused(q) => Ending::Refused(q),
     }

@@ -46,10 +46,10 @@ fn put_move(moves: &mut [u64], n: usize, donor: u32, recipient: u32, serial: u64
 }
 
 // The next move after n moves, asked for and not carried out.
-fn ask(mesh: &[u64], o: Oracle, scratch: &mut [u64], n: usize) -> Balanced
-    ensures { λ r. ⌜ TurnAsked (now (mesh .entry)) (oracle-of o) (now (scratch .entry)) n r (now (scratch .exit)) ⌝ }
+fn ask(mesh: &[u64], viewers: u32, o: Oracle, scratch: &mut [u64], n: usize) -> Balanced
+    ensures { λ r. ⌜ TurnAsked viewers (now (mesh .entry)) (oracle-of o) (now (scratch .entry)) n r (now (scratch .exit)) ⌝ }
 {
-    let b = balance::nextmove::next_move(mesh, o, scratch);
+    let b = balance::nextmove::next_move(mesh, viewers, o, scratch);
     let next = b.next;
     match next {
         NextMove::Level => Balanced::Level(n),
@@ -63,17 +63,18 @@ fn ask(mesh: &[u64], o: Oracle, scratch: &mut [u64], n: usize) -> Balanced
 // last one stays. With no room left the next move is asked for all the same: a mesh that has none is not full.
 pub fn balance(
     mesh: &mut [u64],
+    viewers: u32,
     o: Oracle,
     scratch: &mut [u64],
     outbox: &mut [u8],
     moves: &mut [u64],
 ) -> Balanced
-    ensures { λ r. ⌜ Balances (now (mesh .entry)) (oracle-of o) (now (scratch .entry)) (now (outbox .entry)) (now (moves .entry)) r (now (mesh .exit)) (now (scratch .exit)) (now (outbox .exit)) (now (moves .exit)) ⌝ }
+    ensures { λ r. ⌜ Balances viewers (now (mesh .entry)) (oracle-of o) (now (scratch .entry)) (now (outbox .entry)) (now (moves .entry)) r (now (mesh .exit)) (now (scratch .exit)) (now (outbox .exit)) (now (moves .exit)) ⌝ }
 {
     // The first n moves are carried out and written down.
     let mut n = 0;
     while n < moves.len() / 3 {
-        match crate::step(mesh, o, scratch, outbox) {
+        match crate::step(mesh, viewers, o, scratch, outbox) {
             Ending::Moved(donor, recipient, serial) => {
                 put_move(moves, n, donor, recipient, serial);
                 n += 1;
@@ -92,5 +93,5 @@ pub fn balance(
             }
         }
     }
-    ask(mesh, o, scratch, n)
+    ask(mesh, viewers, o, scratch, n)
 }

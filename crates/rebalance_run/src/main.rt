@@ -1,5 +1,5 @@
-// Balances the meshes on standard input to the end: for each the number of blocks, their files behind their lengths, the oracle, its
-// axis and its six floats. Prints the picked volumes of every block, the moves, how they end, the picked volumes then and a digest of
+// Balances the meshes on standard input to the end: for each the number of blocks, the viewers, the blocks' files behind their lengths, the
+// oracle, its axis and its six floats. Prints the picked volumes of every block, the moves, how they end, the picked volumes then and a digest of
 // every block.
 use memory::header::Header;
 use oracle::Oracle;
@@ -96,28 +96,42 @@ fn show_step(s: Ending) -> bool {
 }
 
 // Step after step until nothing moves.
-fn balance(mesh: &mut [u64], o: Oracle, scratch: &mut [u64], outbox: &mut [u8]) {
+fn balance(mesh: &mut [u64], viewers: u32, o: Oracle, scratch: &mut [u64], outbox: &mut [u8]) {
     let most = rebalance::most_moves();
     for i in 0..most {
-        if !show_step(rebalance::step(mesh, o, scratch, outbox)) {
+        if !show_step(rebalance::step(mesh, viewers, o, scratch, outbox)) {
             return;
         }
     }
 }
 
 // A mesh of k blocks and nothing else.
-fn balance_blocks(mesh: &mut [u64], k: usize, o: Oracle, scratch: &mut [u64], outbox: &mut [u8]) {
+fn balance_blocks(
+    mesh: &mut [u64],
+    viewers: u32,
+    k: usize,
+    o: Oracle,
+    scratch: &mut [u64],
+    outbox: &mut [u8],
+) {
     show_counts(mesh, k, o);
-    balance(mesh, o, scratch, outbox);
+    balance(mesh, viewers, o, scratch, outbox);
     show_counts(mesh, k, o);
     show_digests(mesh, k);
 }
 
 // The first k blocks of what is lent.
-fn balance_first(mesh: &mut [u64], k: usize, o: Oracle, scratch: &mut [u64], outbox: &mut [u8]) {
+fn balance_first(
+    mesh: &mut [u64],
+    viewers: u32,
+    k: usize,
+    o: Oracle,
+    scratch: &mut [u64],
+    outbox: &mut [u8],
+) {
     if k <= mesh.len() / Header::WORDS {
         let words = k * Header::WORDS;
-        balance_blocks(&mut mesh[..words], k, o, scratch, outbox);
+        balance_blocks(&mut mesh[..words], viewers, k, o, scratch, outbox);
     }
 }
 
@@ -149,12 +163,13 @@ fn balance_mesh(
     io::write_all(1, b"blocks ");
     io::print_decimal(1, k as u64);
     io::write_all(1, b"\n");
-    let oracle = meshes::read_mesh(input, cursor::step(input, at, 1), mesh, k);
+    let viewers = vectors::small(input, cursor::step(input, at, 1));
+    let oracle = meshes::read_mesh(input, cursor::step(input, at, 5), mesh, k);
     if oracle == cursor::NOWHERE {
         io::write_all(1, b"a file is refused\n");
         return oracle;
     }
-    balance_first(mesh, k, oracle_at(input, oracle), scratch, outbox);
+    balance_first(mesh, viewers, k, oracle_at(input, oracle), scratch, outbox);
     cursor::step(input, oracle, 50)
 }
 

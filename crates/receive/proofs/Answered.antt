@@ -1,12 +1,13 @@
--- The call's answers: questions 17 to 21 in their order. Assumes nothing.
+-- The call's answers: questions 17, 29 and 18 to 21 in their order. Assumes nothing.
 use mathlib.Core.Path.{_≡_, refl, sym, _∙_, ap, subst}
 use mathlib.Core.Bool.{Bool, true, false, not}
 use mathlib.Core.List.{List, [], append-nil}
 use mathlib.Core.Logic.{inl, inr}
 use Prim.Native.Nat.{ℕ, zero, suc, _+_, _≤_, _<_}
 use native.Mathlib.Omega.{arith}
+use lib.Dec.{leb}
 use lib.ListN.{length, getD}
-use borrow.Author.Tests.{le-leb, lt-leb, eq-eqb, ne-eqb}
+use borrow.Author.Tests.{le-leb, lt-leb, leb-true, leb-false, eq-eqb, ne-eqb}
 use Rattle.model.specs.Lists.{tab, Check, first-no}
 use Rattle.model.specs.Values.{Limits, serial-bound}
 use Rattle.model.specs.Image.{words-of, image, dart-in, block-in, is-image, memory-checks}
@@ -36,7 +37,7 @@ use Rattle.arrival.specs.Draft.{NewSerials, TransferTold, Draft}
 use Rattle.arrival.proofs.Eighteen.{eighteen-is}
 use Rattle.fitting.specs.Fitting.{NewVolume, Parted}
 use Rattle.fitting.proofs.Outlined.{told-of}
-use Rattle.receive.specs.Taken.{AllYes, AskedSaid, AskedAll, Takes, receive-by}
+use Rattle.receive.specs.Taken.{AllYes, AskedSaid, AskedAll, Takes, receive-by, last-two}
 use Rattle.answers.specs.declared.Answer.{Answer as Answered}
 use Rattle.answers.specs.declared.Answer.the-variants as answer
 
@@ -53,29 +54,39 @@ module _ (lim : Limits) (m : List ℕ) {s v x b z : List ℕ} {f : Front} {l : T
     unfolding receive-checks
     no-17 h = record { said = λ t e w. alone _ (ask-no refl (said-no (here-is t w) h) refl) }
 
+    -- 29
+    pub no-29 : {keys ranks q c kinds links : List ℕ} → not here ≡ false → lim .volume-darts < f .darts → AskedAll lim m s v x b z f l keys ranks q c kinds links (answer.Refused refusal.VolumeForViewer)
+    unfolding receive-checks
+    no-29 yes-17 h = record {
+      said = λ t e w. alone _ (ask-yes (said-yes (here-is t w) yes-17) (ask-no refl (lt-leb (size-all (t .faces)) (lim .volume-darts) (omega (arith, h, w .darts-are))) refl));
+    }
+
+    small-is : (t : Transfer) → TransferOutlined t s v x b z f l → f .darts ≤ lim .volume-darts → leb (size-all (t .faces)) (lim .volume-darts) ≡ true
+    small-is t w h = le-leb (size-all (t .faces)) (lim .volume-darts) (omega (arith, h, w .darts-are))
+
     -- 18
-    module _ (yes-17 : not here ≡ false) {keys ranks : List ℕ} {fresh : Bool} (fit : f .darts ≤ length x)
+    module _ (yes-17 : not here ≡ false) (yes-29 : f .darts ≤ lim .volume-darts) {keys ranks : List ℕ} {fresh : Bool} (fit : f .darts ≤ length x)
         (eighteen : NewSerials (block-in m .darts) s (f .points) (f .vertices) x (f .darts) keys ranks fresh) where
       new-is : (t : Transfer) → TransferOutlined t s v x b z f l → fresh ≡ serials-new (block-in m .darts) t
       new-is t w = eighteen .is ∙ sym (eighteen-is (block-in m .darts) (told-of w) fit)
 
       pub no-18 : {q c kinds links : List ℕ} → not fresh ≡ true → AskedAll lim m s v x b z f l keys ranks q c kinds links (answer.Refused refusal.SerialsNotNew)
       unfolding receive-checks
-      no-18 h = record { said = λ t e w. alone _ (ask-yes (said-yes (here-is t w) yes-17) (ask-no refl (said-no (new-is t w) h) refl)) }
+      no-18 h = record { said = λ t e w. alone _ (ask-yes (said-yes (here-is t w) yes-17) (ask-yes (small-is t w yes-29) (ask-no refl (said-no (new-is t w) h) refl))) }
 
       -- 19
       module _ (yes-18 : not fresh ≡ false) {right : Bool} (nineteen : (t : Transfer) → TransferTold t v x b z s (f .points) (f .vertices) (f .darts) (f .hollow) → right ≡ volume-right t) where
         pub no-19 : {q c kinds links : List ℕ} → not right ≡ true → AskedAll lim m s v x b z f l keys ranks q c kinds links (answer.Refused refusal.VolumeWrong)
         unfolding receive-checks
-        no-19 h = record { said = λ t e w. alone _ (ask-yes (said-yes (here-is t w) yes-17) (ask-yes (said-yes (new-is t w) yes-18) (ask-no refl (said-no (nineteen t (told-of w)) h) refl))) }
+        no-19 h = record { said = λ t e w. alone _ (ask-yes (said-yes (here-is t w) yes-17) (ask-yes (small-is t w yes-29) (ask-yes (said-yes (new-is t w) yes-18) (ask-no refl (said-no (nineteen t (told-of w)) h) refl)))) }
 
         -- 20
         module _ (yes-19 : not right ≡ false) {kinds links : List ℕ} {parted : Bool} (twenty : Parted m s v x b z f l kinds links parted) where
           pub no-20 : {q c : List ℕ} → not parted ≡ true → AskedAll lim m s v x b z f l keys ranks q c kinds links (answer.Refused refusal.PartsWrong)
           unfolding receive-checks
           no-20 h = record {
-            said = λ t e w. alone _ (ask-yes (said-yes (here-is t w) yes-17) (ask-yes (said-yes (new-is t w) yes-18) (ask-yes (said-yes (nineteen t (told-of w)) yes-19)
-                (ask-no refl (said-no (twenty .is t w) h) refl))));
+            said = λ t e w. alone _ (ask-yes (said-yes (here-is t w) yes-17) (ask-yes (small-is t w yes-29) (ask-yes (said-yes (new-is t w) yes-18) (ask-yes (said-yes (nineteen t (told-of w)) yes-19)
+                (ask-no refl (said-no (twenty .is t w) h) refl)))));
           }
 
           -- 21
@@ -83,19 +94,19 @@ module _ (lim : Limits) (m : List ℕ) {s v x b z : List ℕ} {f : Front} {l : T
             pub no-21 : {q c : List ℕ} → lim .block-darts < getD m 2 0 + f .darts → AskedAll lim m s v x b z f l keys ranks q c kinds links (answer.Refused refusal.BlockFull)
             unfolding receive-checks
             no-21 h = record {
-              said = λ t e w. alone _ (ask-yes (said-yes (here-is t w) yes-17) (ask-yes (said-yes (new-is t w) yes-18) (ask-yes (said-yes (nineteen t (told-of w)) yes-19)
-                  (ask-yes (said-yes (twenty .is t w) yes-20) (ask-no refl (lt-leb (length (block-in m .darts) + size-all (t .faces)) (lim .block-darts) (omega (arith, h, count-is t w))) refl)))));
+              said = λ t e w. alone _ (ask-yes (said-yes (here-is t w) yes-17) (ask-yes (small-is t w yes-29) (ask-yes (said-yes (new-is t w) yes-18) (ask-yes (said-yes (nineteen t (told-of w)) yes-19)
+                  (ask-yes (said-yes (twenty .is t w) yes-20) (ask-no refl (lt-leb (length (block-in m .darts) + size-all (t .faces)) (lim .block-darts) (omega (arith, h, count-is t w))) refl))))));
             }
 
             pub yes-all : {q c : List ℕ} → getD m 2 0 + f .darts ≤ lim .block-darts → Draft v x b z keys ranks q s (f .points) (f .darts) c
-                → f .darts ≤ length kinds → f .darts ≤ length links → f .darts ≤ length ranks
                 → AskedAll lim m s v x b z f l keys ranks q c kinds links answer.Served
             unfolding receive-checks
-            yes-all h d lk ll lr = record {
+            yes-all h d = record {
               said = (
                 (λ t e w. (
                   record {
                     for-here = said-yes (here-is t w) yes-17;
+                    small = small-is t w yes-29;
                     serials = said-yes (new-is t w) yes-18;
                     volume = said-yes (nineteen t (told-of w)) yes-19;
                     parts = said-yes (twenty .is t w) yes-20;
@@ -105,11 +116,19 @@ module _ (lim : Limits) (m : List ℕ) {s v x b z : List ℕ} {f : Front} {l : T
                 )),
                 d,
                 h,
-                lk,
-                ll,
-                lr,
+                yes-29,
               );
             }
+
+          -- 20 and 21 together
+          pub last-asked : {q c : List ℕ} → Draft v x b z keys ranks q s (f .points) (f .darts) c → {r : Answered} → r ≡ last-two parted (leb (getD m 2 0 + f .darts) (lim .block-darts))
+              → AskedAll lim m s v x b z f l keys ranks q c kinds links r
+          last-asked {q} {c} d {r} e = subst (AskedAll lim m s v x b z f l keys ranks q c kinds links) (sym e) (go parted (leb (getD m 2 0 + f .darts) (lim .block-darts)) refl refl)
+            where
+              go : (p o : Bool) → parted ≡ p → leb (getD m 2 0 + f .darts) (lim .block-darts) ≡ o → AskedAll lim m s v x b z f l keys ranks q c kinds links (last-two p o)
+              go false o i j = no-20 (ap not i)
+              go true false i j = no-21 (ap not i) (leb-false (getD m 2 0 + f .darts) (lim .block-darts) j)
+              go true true i j = yes-all (ap not i) (leb-true (getD m 2 0 + f .darts) (lim .block-darts) j) d
 
 -- serials of a message are small
 elem-tab : {A : Type 0} (g : ℕ → A) (n i : ℕ) → i < n → Elem (g i) (tab g n)
@@ -185,11 +204,11 @@ module _ (lim : Limits) (m : List ℕ) (size : length m ≡ words-of lim) (ok : 
 
   pub transfer-served : (t : Transfer) {y : List ℕ} → AllYes lim m t → y ≡ image (words-of lim) (received (block-in m) t) → Gives (receive-by lim m (a-transfer t)) (served tt) y
   unfolding receive-checks
-  transfer-served t a q = asked-by (a-transfer t) (ask-yes (a .for-here) (ask-yes (a .serials) (ask-yes (a .volume) (ask-yes (a .parts) (ask-yes (a .fits) (ask-end q))))))
+  transfer-served t a q = asked-by (a-transfer t) (ask-yes (a .for-here) (ask-yes (a .small) (ask-yes (a .serials) (ask-yes (a .volume) (ask-yes (a .parts) (ask-yes (a .fits) (ask-end q)))))))
 
 pub none-no : (lim : Limits) (m : List ℕ) (t : Transfer) → AllYes lim m t → first-no (receive-checks lim (block-in m) (a-transfer t)) ≡ 0
 unfolding receive-checks
-none-no lim m t a = yes-then 17 _ _ (a .for-here) ∙ yes-then 18 _ _ (a .serials) ∙ yes-then 19 _ _ (a .volume) ∙ yes-then 20 _ _ (a .parts) ∙ yes-then 21 _ _ (a .fits) ∙ no-more
+none-no lim m t a = yes-then 17 _ _ (a .for-here) ∙ yes-then 29 _ _ (a .small) ∙ yes-then 18 _ _ (a .serials) ∙ yes-then 19 _ _ (a .volume) ∙ yes-then 20 _ _ (a .parts) ∙ yes-then 21 _ _ (a .fits) ∙ no-more
 
 -- WHAT `questions` TELLS, where a caller has looked which it is
 module _ {lim : Limits} {m s v x b z : List ℕ} {f : Front} {l : Tail} {keys ranks q c kinds links : List ℕ} {r : Answered} (h : AskedAll lim m s v x b z f l keys ranks q c kinds links r) where

@@ -1,3 +1,4 @@
+pub mod Arrays
 pub mod TakenImage
 pub mod Answered
 pub mod Served

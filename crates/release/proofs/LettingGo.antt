@@ -1,18 +1,18 @@
 -- What the questions leave labelling and taking out with, and the call's answers. Assumes nothing.
 use mathlib.Core.Path.{_≡_, refl, sym, _∙_, subst, ap}
-use mathlib.Core.Bool.{Bool, true, not}
+use mathlib.Core.Bool.{true, false}
 use mathlib.Core.List.{List, [], _++_}
 use Prim.Native.Nat.{ℕ, _+_, _*_, _-_, _<_, _^_}
 use native.Mathlib.Omega.{arith}
 use lib.ListN.{length, getD, drop, replicate}
 use borrow.Author.Tests.{eq-eqb, ne-eqb}
-use Rattle.model.specs.Values.{Limits, rack}
-use Rattle.model.specs.Image.{words, words-for, words-of, image, is-image, block-in, holds-block, memory-checks}
+use Rattle.model.specs.Values.{Limits}
+use Rattle.model.specs.Image.{words-for, words-of, image, is-image, block-in, holds-block, memory-checks}
 use Rattle.model.specs.Departure.{departure-checks, released}
 use Rattle.model.specs.Calls.{Answer, served, refused, storing, release}
 use Rattle.columns.proofs.Thirds.{kind-one}
 use Rattle.answers.specs.Answers.{Gives, answered}
-use Rattle.answers.proofs.Questions.{Asks, gives, ask-no, ask-yes, ask-end, ask-all, ask-first, said-no}
+use Rattle.answers.proofs.Questions.{Asks, gives, ask-no, ask-yes, ask-end, ask-all, ask-first}
 use Rattle.columns.proofs.ThirdLinks.{same-kind}
 use Rattle.columns.proofs.Question.{Passed, image-passed}
 use Rattle.cells.proofs.FaceSerials.{closed-next}
@@ -88,19 +88,17 @@ module _ (m : List ℕ) (ok : holds-block m ≡ true) (j d : ℕ) {most : ℕ} {
   unfolding released-at
   all-gone e f = f ∙ (λ i. without (e i) marks (getD m 1 0 + w .survey .sewn-is i))
 
--- THE ANSWERS
-module _ (m : List ℕ) (j s : ℕ) where
-  pub size-refused : (length m ≡ words → ⊥) → Gives (release rack m j s) (refused 1) m
+-- THE ANSWERS, by any limits
+module _ (m : List ℕ) (j s : ℕ) (lim : Limits) where
+  pub size-refused : (length m ≡ words-of lim → ⊥) → Gives (release lim m j s) (refused 1) m
   unfolding release storing memory-checks
-  size-refused h = gives _ _ _ _ (ask-no refl (ne-eqb (length m) words h) refl)
+  size-refused h = gives _ _ _ _ (ask-no refl (ne-eqb (length m) (words-of lim) h) refl)
 
-  module _ (size : length m ≡ words) where
-    pub image-refused : {r : Bool} → r ≡ holds-block m → not r ≡ true → Gives (release rack m j s) (refused 2) m
-    unfolding release storing memory-checks
-    image-refused e h = gives _ _ _ _ (ask-yes (eq-eqb (length m) words size) (ask-no refl (said-no e h) refl))
+  pub image-refused : length m ≡ words-of lim → is-image lim m ≡ false → Gives (release lim m j s) (refused 2) m
+  unfolding release storing memory-checks
+  image-refused size h = gives _ _ _ _ (ask-yes (eq-eqb (length m) (words-of lim) size) (ask-no refl h refl))
 
-  -- by any limits
-  module _ (lim : Limits) (size : length m ≡ words-of lim) (ok : is-image lim m ≡ true) where
+  module _ (size : length m ≡ words-of lim) (ok : is-image lim m ≡ true) where
     -- 1 and 2 before
     block-given : {given : Answer (Unit {0})} {lent : List ℕ}
         → Asks (departure-checks (lim .volume-darts) (block-in m) j s ++ []) m tt (image (words-of lim) (released (block-in m) j s)) given lent

@@ -1,3 +1,4 @@
 pub mod Post
 pub mod Played
 pub mod Requests
+pub mod Either

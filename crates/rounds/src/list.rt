@@ -27,21 +27,27 @@ pub fn outcome_number(o: Outcome) -> u64
 }
 
 // Request i of a list; the number of its outcome.
-fn play_at(mesh: &mut [u64], requests: &[u64], i: usize, outbox: &mut [u8]) -> u64
+fn play_at(mesh: &mut [u64], viewers: u32, requests: &[u64], i: usize, outbox: &mut [u8]) -> u64
     requires { ⌜ i < length (now requests) / 3 ⌝ }
-    ensures { λ r. ⌜ PlayedOne (now (mesh .entry)) (request-at (now (requests .entry)) i) (now (outbox .entry)) r (now (mesh .exit)) (now (outbox .exit)) ⌝ }
+    ensures { λ r. ⌜ PlayedOne viewers (now (mesh .entry)) (request-at (now (requests .entry)) i) (now (outbox .entry)) r (now (mesh .exit)) (now (outbox .exit)) ⌝ }
 {
     let at = i * 3;
     let from = requests[at];
     let to = requests[at + 1];
     let serial = requests[at + 2];
-    outcome_number(crate::play(mesh, from, to, serial, outbox))
+    outcome_number(crate::play(mesh, viewers, from, to, serial, outbox))
 }
 
 // The requests in order, as many as there is room for outcomes; each is played, whatever became of those before it. The number of
 // each outcome goes to the request's place among the outcomes; the others stay.
-pub fn play_all(mesh: &mut [u64], requests: &[u64], outcomes: &mut [u64], outbox: &mut [u8])
-    ensures { λ r. ⌜ PlayedAll (now (mesh .entry)) (now (requests .entry)) (now (outcomes .entry)) (now (outbox .entry)) (now (mesh .exit)) (now (outcomes .exit)) (now (outbox .exit)) ⌝ }
+pub fn play_all(
+    mesh: &mut [u64],
+    viewers: u32,
+    requests: &[u64],
+    outcomes: &mut [u64],
+    outbox: &mut [u8],
+)
+    ensures { λ r. ⌜ PlayedAll viewers (now (mesh .entry)) (now (requests .entry)) (now (outcomes .entry)) (now (outbox .entry)) (now (mesh .exit)) (now (outcomes .exit)) (now (outbox .exit)) ⌝ }
 {
     // The requests before i are played, and their outcomes written.
     let mut i = 0;
@@ -49,7 +55,7 @@ pub fn play_all(mesh: &mut [u64], requests: &[u64], outcomes: &mut [u64], outbox
         if requests.len() / 3 <= i {
             return;
         }
-        outcomes[i] = play_at(mesh, requests, i, outbox);
+        outcomes[i] = play_at(mesh, viewers, requests, i, outbox);
         i += 1;
     }
 }

@@ -1,5 +1,5 @@
-// Plays the requests on standard input, mesh after mesh: the number of blocks, their files behind their lengths, the number of
-// requests, the requests. Prints each round's outcome and a digest of every block after it.
+// Plays the requests on standard input, mesh after mesh: the number of blocks, the viewers, the blocks' files behind their lengths, the
+// number of requests, the requests. Prints each round's outcome and a digest of every block after it.
 use memory::header::Header;
 use rounds::Outcome;
 use vectors::cursor;
@@ -39,13 +39,25 @@ fn show(outcome: Outcome, mesh: &[u64], k: usize) {
 }
 
 // Plays n requests that stand from a place on; the place past them.
-fn play(input: &[u8], at: usize, n: usize, mesh: &mut [u64], k: usize, outbox: &mut [u8]) -> usize {
+fn play(
+    input: &[u8],
+    at: usize,
+    n: usize,
+    mesh: &mut [u64],
+    viewers: u32,
+    k: usize,
+    outbox: &mut [u8],
+) -> usize {
     let mut place = at;
     for i in 0..n {
         let from = wide(cursor::byte(input, place));
         let to = wide(cursor::byte(input, cursor::step(input, place, 1)));
         let serial = cursor::number(input, cursor::step(input, place, 2), 8);
-        show(rounds::play(mesh, from, to, serial, outbox), mesh, k);
+        show(
+            rounds::play(mesh, viewers, from, to, serial, outbox),
+            mesh,
+            k,
+        );
         place = cursor::step(input, place, 10);
     }
     place
@@ -57,13 +69,22 @@ fn play_mesh(input: &[u8], at: usize, mesh: &mut [u64], outbox: &mut [u8]) -> us
     io::write_all(1, b"blocks ");
     io::print_decimal(1, k as u64);
     io::write_all(1, b"\n");
-    let requests = meshes::read_mesh(input, cursor::step(input, at, 1), mesh, k);
+    let viewers = vectors::small(input, cursor::step(input, at, 1));
+    let requests = meshes::read_mesh(input, cursor::step(input, at, 5), mesh, k);
     if requests == cursor::NOWHERE {
         io::write_all(1, b"a file is refused\n");
         return requests;
     }
     let n = byte_size(cursor::byte(input, requests));
-    play(input, cursor::step(input, requests, 1), n, mesh, k, outbox)
+    play(
+        input,
+        cursor::step(input, requests, 1),
+        n,
+        mesh,
+        viewers,
+        k,
+        outbox,
+    )
 }
 
 // Mesh after mesh.

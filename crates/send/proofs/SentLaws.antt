@@ -9,11 +9,11 @@ use lib.ListN.{length, take, drop, length-append}
 use lib.Seq.{sets-eq}
 use borrow.Author.Tests.{eq-eqb, ne-eqb, le-leb, lt-leb}
 use borrow.Rule.Slice.PartMut.{putMid}
-use Rattle.model.specs.Values.{Limits, rack}
+use Rattle.model.specs.Values.{Limits}
 use Rattle.model.specs.Lists.{concat}
 use Rattle.model.specs.Layouts.{framed}
 use Rattle.model.specs.Messages.{Transfer, Update, transfer, update}
-use Rattle.model.specs.Image.{words, words-of, is-image, block-in, holds-block, memory-checks}
+use Rattle.model.specs.Image.{words-of, is-image, block-in, holds-block, memory-checks}
 use Rattle.model.specs.Departure.{departure-checks, messages, transfer-of, updates-of}
 use Rattle.model.specs.Calls.{Answer, served, refused, writing, send}
 use Rattle.answers.specs.Answers.{Gives, answered}
@@ -93,25 +93,25 @@ module _ (out bytes : List ℕ) where
       let all : past ≡ length bytes = s .past ∙ z in
       rw all (gives _ _ _ _ (ask-yes (le-leb (length bytes) (length out) (omega arith)) (ask-end same)))
 
--- THE CALL
-pub refused-size : (m out : List ℕ) (j s : ℕ) → (length m ≡ words → ⊥) → Gives (send rack m j s out) (refused 1) out
-unfolding send writing memory-checks
-refused-size m out j s h = gives _ _ _ _ (ask-no refl (ne-eqb (length m) words h) refl)
-
-pub refused-image : (m out : List ℕ) (j s : ℕ) → length m ≡ words → holds-block m ≡ false → Gives (send rack m j s out) (refused 2) out
-unfolding send writing memory-checks
-refused-image m out j s h e = gives _ _ _ _ (ask-yes (eq-eqb (length m) words h) (ask-no refl e refl))
-
--- by any limits
-module _ (m out : List ℕ) (j s : ℕ) (lim : Limits) (size : length m ≡ words-of lim) (ok : is-image lim m ≡ true) where
-  pub refused-leaving : {n : ℕ} → refused n ≡ answered (departure-checks (lim .volume-darts) (block-in m) j s) → Gives (send lim m j s out) (refused n) out
+-- THE CALL, by any limits
+module _ (m out : List ℕ) (j s : ℕ) (lim : Limits) where
+  pub refused-size : (length m ≡ words-of lim → ⊥) → Gives (send lim m j s out) (refused 1) out
   unfolding send writing memory-checks
-  refused-leaving h = gives _ _ _ _ (ask-yes (eq-eqb (length m) (words-of lim) size) (ask-yes ok (ask-first (departure-checks (lim .volume-darts) (block-in m) j s) _ h refl)))
+  refused-size h = gives _ _ _ _ (ask-no refl (ne-eqb (length m) (words-of lim) h) refl)
 
-  -- what question 15 gives, the call gives
-  pub sent : holds-block m ≡ true → {c : Counts} {marks order starts numbers firsts : List ℕ} → Departs (lim .volume-darts) m j s c marks order starts numbers firsts
-      → {given : Answer ℕ} {after : List ℕ} → Gives (writing [] out (messages-at m j c marks numbers firsts)) given after → Gives (send lim m j s out) given after
-  unfolding send writing memory-checks departure-checks
-  sent sound d {given} {after} g =
-      let w = subst (λ (b : List ℕ). Gives (writing [] out b) given after) (sym (sent-bytes m sound j s d)) g in
-      gives _ _ _ _ (ask-yes (eq-eqb (length m) (words-of lim) size) (ask-yes ok (ask-all (departure-checks (lim .volume-darts) (block-in m) j s) _ refl (d .asked) (record { result = w }))))
+  pub refused-image : length m ≡ words-of lim → is-image lim m ≡ false → Gives (send lim m j s out) (refused 2) out
+  unfolding send writing memory-checks
+  refused-image h e = gives _ _ _ _ (ask-yes (eq-eqb (length m) (words-of lim) h) (ask-no refl e refl))
+
+  module _ (size : length m ≡ words-of lim) (ok : is-image lim m ≡ true) where
+    pub refused-leaving : {n : ℕ} → refused n ≡ answered (departure-checks (lim .volume-darts) (block-in m) j s) → Gives (send lim m j s out) (refused n) out
+    unfolding send writing memory-checks
+    refused-leaving h = gives _ _ _ _ (ask-yes (eq-eqb (length m) (words-of lim) size) (ask-yes ok (ask-first (departure-checks (lim .volume-darts) (block-in m) j s) _ h refl)))
+
+    -- what question 15 gives, the call gives
+    pub sent : holds-block m ≡ true → {c : Counts} {marks order starts numbers firsts : List ℕ} → Departs (lim .volume-darts) m j s c marks order starts numbers firsts
+        → {given : Answer ℕ} {after : List ℕ} → Gives (writing [] out (messages-at m j c marks numbers firsts)) given after → Gives (send lim m j s out) given after
+    unfolding send writing memory-checks departure-checks
+    sent sound d {given} {after} g =
+        let w = subst (λ (b : List ℕ). Gives (writing [] out b) given after) (sym (sent-bytes m sound j s d)) g in
+        gives _ _ _ _ (ask-yes (eq-eqb (length m) (words-of lim) size) (ask-yes ok (ask-all (departure-checks (lim .volume-darts) (block-in m) j s) _ refl (d .asked) (record { result = w }))))

@@ -10,7 +10,7 @@ use lib.Dec.{leb, eqb}
 use lib.ListN.{length, drop}
 use borrow.Author.Tests.{eqb-true, eqb-false, le-leb, not-true}
 use Rattle.model.specs.Lists.{all, concat, Check, first-no}
-use Rattle.model.specs.Values.{Limits, rack, room}
+use Rattle.model.specs.Values.{Limits, rack, viewer, room}
 use Rattle.laws.proofs.Tests.{by-cases, and-left, and-right, yes-then, no-more, first-no-append, first-no-stays}
 use Rattle.model.specs.Departure.{departure-checks, messages}
 use Rattle.model.specs.Calls.{writing, send}
@@ -45,6 +45,9 @@ outbox-suffices lim fits few-sent m j s outbox enough e =
     omega arith)
     (λ z. not-among 15 qs (λ q. omega arith) refl (sym (first-no-stays qs ((15, leb (length bytes) (length outbox)) ∷ []) (eqb-false (first-no qs) 0 z)) ∙ asked-15))
 
--- on the rack
+-- at both callers
 pub rack-outbox-suffices : OutboxSuffices rack
 rack-outbox-suffices = outbox-suffices rack (omega arith) (omega arith)
+
+pub viewer-outbox-suffices : OutboxSuffices viewer
+viewer-outbox-suffices = outbox-suffices viewer (omega arith) (omega arith)

@@ -121,7 +121,8 @@ module _ (lim : Limits) (b : Block) (t : Transfer) where
   unfolding receive-checks
   passed e =
       let q17 = yes-first 17 (addressed (t .from) (t .to) b) _ (λ z. omega arith) e in
-      let q18 = yes-first 18 (serials-new (b .darts) t) _ (λ z. omega arith) (q17 .1) in
+      let q29 = yes-first 29 (leb (size-all (t .faces)) (lim .volume-darts)) _ (λ z. omega arith) (q17 .1) in
+      let q18 = yes-first 18 (serials-new (b .darts) t) _ (λ z. omega arith) (q29 .1) in
       let q19 = yes-first 19 (volume-right t) _ (λ z. omega arith) (q18 .1) in
       let q20 = yes-first 20 (parts-right b t) _ (λ z. omega arith) (q19 .1) in
       let q21 = yes-first 21 (leb (length (b .darts) + size-all (t .faces)) (lim .block-darts)) _ (λ z. omega arith) (q20 .1) in

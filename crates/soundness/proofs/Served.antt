@@ -8,7 +8,7 @@ use lib.Dec.{leb, eqb}
 use lib.ListN.{length}
 use borrow.Author.Tests.{le-leb, leb-true, eqb-true}
 use Rattle.model.specs.Lists.{ascending, Check, first-no}
-use Rattle.model.specs.Values.{Block, Limits, rack, room}
+use Rattle.model.specs.Values.{Block, Limits, rack, viewer, room}
 use Rattle.model.specs.Cells.{labels}
 use Rattle.model.specs.Sound.{ranges-right, coordinates-finite, links-right, thirds-right, labels-right, points-agree, block-checks, sound-block}
 use Rattle.model.specs.Image.{words-of, image, block-in, is-image, new-block}
@@ -106,6 +106,9 @@ module _ (lim : Limits) (fits : lim .block-darts ≤ room) where
   pub leaves-sound : LeavesSound lim
   leaves-sound = record { empty-leaves = empty-leaves; read-file-leaves = read-file-leaves; receive-leaves = receive-leaves; release-leaves = release-leaves; redirect-leaves = redirect-leaves }
 
--- on the rack
+-- at both callers
 pub rack-leaves-sound : LeavesSound rack
 rack-leaves-sound = leaves-sound rack (omega arith)
+
+pub viewer-leaves-sound : LeavesSound viewer
+viewer-leaves-sound = leaves-sound viewer (omega arith)

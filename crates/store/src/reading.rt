@@ -7,6 +7,8 @@
 use answers::Answer;
 use commands::names;
 use commands::names::File;
+use commands::viewers;
+use commands::viewers::Viewers;
 use memory::header::Header;
 use saving::commit;
 use saving::look;
@@ -406,6 +408,38 @@ fn file_by(bytes: &[u8], b: usize, room: &mut [u8]) -> Contents {
         Contents::Missing => committed_bytes(File::Block(b), b, bytes, room),
         Contents::TooLarge => Contents::TooLarge,
         Contents::Failed(e) => Contents::Failed(e),
+    }
+}
+
+// The bytes of the file `viewers` are no line of block numbers.
+fn wrong_viewers() -> Viewers {
+    say::error(
+        b"viewers is not a line of ascending block numbers, 0 to 15, with one blank between two",
+    );
+    Viewers::Wrong
+}
+
+// What the first n of lent bytes say.
+fn viewers_of(text: &[u8], n: usize) -> Viewers {
+    if n <= text.len() {
+        if let Viewers::Bits(v) = viewers::viewers_in(&text[0..n]) {
+            return Viewers::Bits(v);
+        }
+    }
+    wrong_viewers()
+}
+
+// Which blocks are viewers', by the file `viewers`; none where there is no such file. What is wrong with it is said.
+pub fn viewers() -> Viewers {
+    let mut text = [0u8; 64];
+    match files::read(b"viewers", &mut text) {
+        Contents::Bytes(n) => viewers_of(&text, n),
+        Contents::Missing => Viewers::Bits(0),
+        Contents::TooLarge => wrong_viewers(),
+        Contents::Failed(e) => {
+            files::say_unread(b"viewers", e);
+            Viewers::Wrong
+        }
     }
 }
 

@@ -41,13 +41,16 @@ fn round_words(question: u32) {
     match question {
         9 => text(b"the destination is the block itself, or above 15"),
         10 => text(b"the block does not hold this serial"),
-        11 => text(b"the cell has more than 512 darts"),
+        11 => text(b"the cell has more than 512 darts, or more than 64 and an end is a viewer's"),
         12 => text(b"the cell is sewn to itself"),
         13 => text(
             b"two edges of the cell join the same two corners, or an edge ends where it starts",
         ),
         14 => text(b"the block's counter is at its end"),
-        21 => text(b"the destination would have more than 4096 darts"),
+        21 => text(
+            b"the destination would have more than 4096 darts, or as a viewer's more than 256",
+        ),
+        29 => text(b"the cell has more than 64 darts, and the destination is a viewer's"),
         _ => text(b"the basin has no such block"),
     }
 }
@@ -55,6 +58,7 @@ fn round_words(question: u32) {
 // Why a basin was refused.
 fn basin_words(question: u32) {
     match question {
+        2 => text(b"a viewer's block has more than 256 darts"),
         23 => text(b"a block's number is not that of its file"),
         24 => text(b"a serial occurs in two blocks"),
         25 => text(b"a label is not paired between the two blocks that it joins"),
@@ -66,19 +70,15 @@ fn basin_words(question: u32) {
 
 // What a no to a question means.
 pub fn meaning(question: u32) {
-    if question < 3 {
-        round_words(question);
-        return;
-    }
-    if question < 9 {
+    if (3 <= question) & (question < 9) {
         file_words(question);
         return;
     }
-    if question < 23 {
-        round_words(question);
+    if (question == 2) | ((23 <= question) & (question < 29)) {
+        basin_words(question);
         return;
     }
-    basin_words(question);
+    round_words(question);
 }
 
 fn wide(x: u32) -> u64 {

@@ -1,4 +1,4 @@
-// Vectors of the second implementation: a call is played on what a record lends, and compared with what the record tells.
+// Vectors of the second implementation: a call of the rack or of a viewer is played on what a record lends, and compared with what the record tells.
 pub mod cursor; // cursor.rt: numbers and words of a record
 pub mod lent; // lent.rt: lent memory and bytes, filled and compared
 pub mod meshes; // meshes.rt: meshes stored as files, and digests of their blocks
@@ -37,9 +37,14 @@ fn verdict(record: &[u8], answer: u32, same: bool) -> u32 {
     AS_TOLD
 }
 
+// A number of four bytes.
+pub fn small(record: &[u8], at: usize) -> u32 {
+    (cursor::number(record, at, 4) % 4294967296) as u32
+}
+
 // The answer with which every record starts.
 pub fn told_answer(record: &[u8]) -> u32 {
-    (cursor::number(record, 0, 4) % 4294967296) as u32
+    small(record, 0)
 }
 
 // Fills memory before the call and memory as told after it, from a place on; gives the place past both.
@@ -58,7 +63,8 @@ enum Changing {
     Redirect,
 }
 
-fn change(call: Changing, bytes: &[u8], block: &mut [u64]) -> Answer {
+// At a node of the rack.
+fn change_rack(call: Changing, bytes: &[u8], block: &mut [u64]) -> Answer {
     match call {
         Changing::Empty(number) => memory::header::empty(number, block),
         Changing::ReadFile => readfile::read_file(bytes, block),
@@ -68,8 +74,28 @@ fn change(call: Changing, bytes: &[u8], block: &mut [u64]) -> Answer {
     }
 }
 
+// At a viewer.
+fn change_viewer(call: Changing, bytes: &[u8], block: &mut [u64]) -> Answer {
+    match call {
+        Changing::Empty(number) => viewer::empty(number, block),
+        Changing::ReadFile => viewer::read_file(bytes, block),
+        Changing::Receive => viewer::receive(block, bytes),
+        Changing::Release(to, serial) => viewer::release(block, to, serial),
+        Changing::Redirect => viewer::redirect(block, bytes),
+    }
+}
+
+// At a viewer, or at a node of the rack.
+fn change(at_viewer: bool, call: Changing, bytes: &[u8], block: &mut [u64]) -> Answer {
+    if at_viewer {
+        return change_viewer(call, bytes, block);
+    }
+    change_rack(call, bytes, block)
+}
+
 // On memory of the record's size, which stands at a place with its change behind it.
 fn change_on(
+    at_viewer: bool,
     call: Changing,
     record: &[u8],
     at: usize,
@@ -80,12 +106,13 @@ fn change_on(
     if before_and_after(record, at, block, told) != record.len() {
         return UNREADABLE;
     }
-    let answer = answers::answer_number(change(call, bytes, block));
+    let answer = answers::answer_number(change(at_viewer, call, bytes, block));
     verdict(record, answer, lent::same(block, told))
 }
 
 // Memory, change, from a place on.
 fn change_from(
+    at_viewer: bool,
     call: Changing,
     record: &[u8],
     at: usize,
@@ -97,6 +124,7 @@ fn change_from(
     if words <= block.len() {
         if words <= told.len() {
             return change_on(
+                at_viewer,
                 call,
                 record,
                 at,
@@ -110,11 +138,17 @@ fn change_from(
 }
 
 // Bytes, memory, change.
-fn change_by_bytes(call: Changing, record: &[u8], block: &mut [u64], told: &mut [u64]) -> u32 {
+fn change_by_bytes(
+    at_viewer: bool,
+    call: Changing,
+    record: &[u8],
+    block: &mut [u64],
+    told: &mut [u64],
+) -> u32 {
     let at = cursor::bytes_end(record, 4);
     if 8 <= at {
         if at <= record.len() {
-            return change_from(call, record, at, &record[8..at], block, told);
+            return change_from(at_viewer, call, record, at, &record[8..at], block, told);
         }
     }
     UNREADABLE
@@ -122,40 +156,41 @@ fn change_by_bytes(call: Changing, record: &[u8], block: &mut [u64], told: &mut 
 
 // Numbers up to a place, memory, change.
 fn change_by_numbers(
+    at_viewer: bool,
     call: Changing,
     record: &[u8],
     at: usize,
     block: &mut [u64],
     told: &mut [u64],
 ) -> u32 {
-    change_from(call, record, at, b"", block, told)
+    change_from(at_viewer, call, record, at, b"", block, told)
 }
 
 // Empty: number, memory, change.
-pub fn empty_case(record: &[u8], block: &mut [u64], told: &mut [u64]) -> u32 {
+pub fn empty_case(at_viewer: bool, record: &[u8], block: &mut [u64], told: &mut [u64]) -> u32 {
     let call = Changing::Empty(cursor::number(record, 4, 8));
-    change_by_numbers(call, record, 12, block, told)
+    change_by_numbers(at_viewer, call, record, 12, block, told)
 }
 
 // Read file: bytes of the file, memory, change.
-pub fn read_file_case(record: &[u8], block: &mut [u64], told: &mut [u64]) -> u32 {
-    change_by_bytes(Changing::ReadFile, record, block, told)
+pub fn read_file_case(at_viewer: bool, record: &[u8], block: &mut [u64], told: &mut [u64]) -> u32 {
+    change_by_bytes(at_viewer, Changing::ReadFile, record, block, told)
 }
 
 // Receive: bytes of the message, memory, change.
-pub fn receive_case(record: &[u8], block: &mut [u64], told: &mut [u64]) -> u32 {
-    change_by_bytes(Changing::Receive, record, block, told)
+pub fn receive_case(at_viewer: bool, record: &[u8], block: &mut [u64], told: &mut [u64]) -> u32 {
+    change_by_bytes(at_viewer, Changing::Receive, record, block, told)
 }
 
 // Release: destination, serial, memory, change.
-pub fn release_case(record: &[u8], block: &mut [u64], told: &mut [u64]) -> u32 {
+pub fn release_case(at_viewer: bool, record: &[u8], block: &mut [u64], told: &mut [u64]) -> u32 {
     let call = Changing::Release(cursor::number(record, 4, 8), cursor::number(record, 12, 8));
-    change_by_numbers(call, record, 20, block, told)
+    change_by_numbers(at_viewer, call, record, 20, block, told)
 }
 
 // Redirect: bytes of the message, memory, change.
-pub fn redirect_case(record: &[u8], block: &mut [u64], told: &mut [u64]) -> u32 {
-    change_by_bytes(Changing::Redirect, record, block, told)
+pub fn redirect_case(at_viewer: bool, record: &[u8], block: &mut [u64], told: &mut [u64]) -> u32 {
+    change_by_bytes(at_viewer, Changing::Redirect, record, block, told)
 }
 
 // A call that reads a block's memory and writes bytes, with its numbers.
@@ -164,36 +199,68 @@ enum Writing {
     Send(u64, u64),
 }
 
-fn write(call: Writing, block: &[u64], out: &mut [u8]) -> Written {
+// At a node of the rack.
+fn write_rack(call: Writing, block: &[u64], out: &mut [u8]) -> Written {
     match call {
         Writing::SaveFile => savefile::save_file(block, out),
         Writing::Send(to, serial) => send::send(block, to, serial, out),
     }
 }
 
+// At a viewer.
+fn write_viewer(call: Writing, block: &[u64], out: &mut [u8]) -> Written {
+    match call {
+        Writing::SaveFile => viewer::save_file(block, out),
+        Writing::Send(to, serial) => viewer::send(block, to, serial, out),
+    }
+}
+
+// At a viewer, or at a node of the rack.
+fn write(at_viewer: bool, call: Writing, block: &[u64], out: &mut [u8]) -> Written {
+    if at_viewer {
+        return write_viewer(call, block, out);
+    }
+    write_rack(call, block, out)
+}
+
 // On memory and room of the record's sizes. The memory is lent for reading only.
-fn write_on(call: Writing, record: &[u8], room: usize, block: &[u64], out: &mut [u8]) -> u32 {
+fn write_on(
+    at_viewer: bool,
+    call: Writing,
+    record: &[u8],
+    room: usize,
+    block: &[u64],
+    out: &mut [u8],
+) -> u32 {
     lent::fill(out, cursor::byte(record, cursor::step(record, room, 4)));
-    let written = write(call, block, out);
+    let written = write(at_viewer, call, block, out);
     let same = lent::room_is(record, room, answers::written_bytes(written), out);
     verdict(record, answers::written_number(written), same)
 }
 
 // On memory of the record's size, which stands at a place with the room behind it.
-fn write_from(call: Writing, record: &[u8], at: usize, block: &mut [u64], out: &mut [u8]) -> u32 {
+fn write_from(
+    at_viewer: bool,
+    call: Writing,
+    record: &[u8],
+    at: usize,
+    block: &mut [u64],
+    out: &mut [u8],
+) -> u32 {
     let room = lent::words(record, at, block);
     if cursor::bytes_end(record, cursor::step(record, room, 5)) != record.len() {
         return UNREADABLE;
     }
     let bytes = cursor::short(record, room);
     if bytes <= out.len() {
-        return write_on(call, record, room, block, &mut out[..bytes]);
+        return write_on(at_viewer, call, record, room, block, &mut out[..bytes]);
     }
     PASSED_OVER
 }
 
 // Numbers up to a place, memory, room.
 fn write_by_numbers(
+    at_viewer: bool,
     call: Writing,
     record: &[u8],
     at: usize,
@@ -202,20 +269,20 @@ fn write_by_numbers(
 ) -> u32 {
     let words = cursor::short(record, at);
     if words <= block.len() {
-        return write_from(call, record, at, &mut block[..words], out);
+        return write_from(at_viewer, call, record, at, &mut block[..words], out);
     }
     PASSED_OVER
 }
 
 // Save file: memory, room.
-pub fn save_file_case(record: &[u8], block: &mut [u64], out: &mut [u8]) -> u32 {
-    write_by_numbers(Writing::SaveFile, record, 4, block, out)
+pub fn save_file_case(at_viewer: bool, record: &[u8], block: &mut [u64], out: &mut [u8]) -> u32 {
+    write_by_numbers(at_viewer, Writing::SaveFile, record, 4, block, out)
 }
 
 // Send: destination, serial, memory, room.
-pub fn send_case(record: &[u8], block: &mut [u64], out: &mut [u8]) -> u32 {
+pub fn send_case(at_viewer: bool, record: &[u8], block: &mut [u64], out: &mut [u8]) -> u32 {
     let call = Writing::Send(cursor::number(record, 4, 8), cursor::number(record, 12, 8));
-    write_by_numbers(call, record, 20, block, out)
+    write_by_numbers(at_viewer, call, record, 20, block, out)
 }
 
 // On a mesh and a scratch of the record's sizes; the scratch stands at a place, twice filled from it.
@@ -230,13 +297,13 @@ fn check_with(
     if lent::words(record, at, scratch) != record.len() {
         return UNREADABLE;
     }
-    let answer = answers::answer_number(checkmesh::check_mesh(mesh, scratch));
+    let answer = answers::answer_number(checkmesh::check_mesh(mesh, small(record, 4), scratch));
     verdict(record, answer, lent::same(scratch, told))
 }
 
 // On a mesh of the record's size.
 fn check_on(record: &[u8], mesh: &mut [u64], scratch: &mut [u64], told: &mut [u64]) -> u32 {
-    let at = lent::words(record, 4, mesh);
+    let at = lent::words(record, 8, mesh);
     let entries = cursor::short(record, at);
     if entries <= scratch.len() {
         if entries <= told.len() {
@@ -252,14 +319,14 @@ fn check_on(record: &[u8], mesh: &mut [u64], scratch: &mut [u64], told: &mut [u6
     PASSED_OVER
 }
 
-// Check mesh: memory of the mesh, scratch, which stays.
+// Check mesh: viewers, memory of the mesh, scratch, which stays.
 pub fn check_mesh_case(
     record: &[u8],
     mesh: &mut [u64],
     scratch: &mut [u64],
     told: &mut [u64],
 ) -> u32 {
-    let words = cursor::short(record, 4);
+    let words = cursor::short(record, 8);
     if words <= mesh.len() {
         return check_on(record, &mut mesh[..words], scratch, told);
     }
@@ -295,11 +362,6 @@ pub fn point(record: &[u8], at: usize) -> Point {
         y: float(cursor::number(record, cursor::step(record, at, 8), 8)),
         z: float(cursor::number(record, cursor::step(record, at, 16), 8)),
     }
-}
-
-// A number of four bytes.
-fn small(record: &[u8], at: usize) -> u32 {
-    (cursor::number(record, at, 4) % 4294967296) as u32
 }
 
 fn wide(x: u32) -> u64 {
@@ -340,12 +402,13 @@ fn move_is(record: &[u8], at: usize, m: NextMove) -> bool {
 
 // The next move by the record's oracle.
 fn asked_move(record: &[u8], mesh: &[u64], scratch: &mut [u64]) -> Balance {
-    let low = point(record, 12);
-    let high = point(record, 36);
+    let low = point(record, 16);
+    let high = point(record, 40);
     balance::nextmove::next_move_by_number(
         mesh,
         small(record, 4),
         small(record, 8),
+        small(record, 12),
         low,
         high,
         scratch,
@@ -367,7 +430,7 @@ fn move_with(record: &[u8], at: usize, mesh: &[u64], scratch: &mut [u64], told: 
 
 // On a mesh of the record's size.
 fn move_on(record: &[u8], mesh: &mut [u64], scratch: &mut [u64], told: &mut [u64]) -> u32 {
-    let at = lent::words(record, 60, mesh);
+    let at = lent::words(record, 64, mesh);
     let entries = cursor::short(record, at);
     if entries <= scratch.len() {
         if entries <= told.len() {
@@ -383,14 +446,14 @@ fn move_on(record: &[u8], mesh: &mut [u64], scratch: &mut [u64], told: &mut [u64
     PASSED_OVER
 }
 
-// Next move: oracle, axis, six floats, memory of the mesh, scratch, which stays, the size of the lent answer, the answer.
+// Next move: viewers, oracle, axis, six floats, memory of the mesh, scratch, which stays, the size of the lent answer, the answer.
 pub fn next_move_case(
     record: &[u8],
     mesh: &mut [u64],
     scratch: &mut [u64],
     told: &mut [u64],
 ) -> u32 {
-    let words = cursor::short(record, 60);
+    let words = cursor::short(record, 64);
     if words <= mesh.len() {
         return move_on(record, &mut mesh[..words], scratch, told);
     }

@@ -26,29 +26,50 @@ fn name(call: u8) {
         6 => io::write_all(1, b"redirect"),
         7 => io::write_all(1, b"check_mesh"),
         8 => io::write_all(1, b"next_move"),
+        9 => io::write_all(1, b"viewer_empty"),
+        10 => io::write_all(1, b"viewer_read_file"),
+        11 => io::write_all(1, b"viewer_save_file"),
+        12 => io::write_all(1, b"viewer_send"),
+        13 => io::write_all(1, b"viewer_receive"),
+        14 => io::write_all(1, b"viewer_release"),
+        15 => io::write_all(1, b"viewer_redirect"),
         _ => io::write_all(1, b"no call"),
     }
     ;
 }
 
-// One record of a call that changes a block.
-fn play_changing(call: u8, record: &[u8], block: &mut [u64], told: &mut [u64]) -> u32 {
+// One record of a call that changes a block, at a viewer or at a node of the rack.
+fn play_changing(
+    at_viewer: bool,
+    call: u8,
+    record: &[u8],
+    block: &mut [u64],
+    told: &mut [u64],
+) -> u32 {
     match call {
-        0 => vectors::empty_case(record, block, told),
-        1 => vectors::read_file_case(record, block, told),
-        4 => vectors::receive_case(record, block, told),
-        5 => vectors::release_case(record, block, told),
-        6 => vectors::redirect_case(record, block, told),
+        0 => vectors::empty_case(at_viewer, record, block, told),
+        1 => vectors::read_file_case(at_viewer, record, block, told),
+        4 => vectors::receive_case(at_viewer, record, block, told),
+        5 => vectors::release_case(at_viewer, record, block, told),
+        6 => vectors::redirect_case(at_viewer, record, block, told),
         _ => vectors::UNREADABLE,
     }
 }
 
-// Of a call that writes bytes.
-fn play_writing(call: u8, record: &[u8], block: &mut [u64], out: &mut [u8]) -> u32 {
-    if call == 2 {
-        return vectors::save_file_case(record, block, out);
+// Of a call on a block.
+fn play_block(
+    at_viewer: bool,
+    call: u8,
+    record: &[u8],
+    block: &mut [u64],
+    told: &mut [u64],
+    out: &mut [u8],
+) -> u32 {
+    match call {
+        2 => vectors::save_file_case(at_viewer, record, block, out),
+        3 => vectors::send_case(at_viewer, record, block, out),
+        _ => play_changing(at_viewer, call, record, block, told),
     }
-    vectors::send_case(record, block, out)
 }
 
 // Of a call on a mesh.
@@ -65,7 +86,7 @@ fn play_mesh(
     vectors::next_move_case(record, mesh, block, told)
 }
 
-// One record of a call.
+// One record of a call: a viewer's calls on a block follow those on a mesh, in the order of the rack's.
 fn play(
     call: u8,
     record: &[u8],
@@ -74,25 +95,25 @@ fn play(
     told: &mut [u64],
     out: &mut [u8],
 ) -> u32 {
-    match call {
-        2 => play_writing(call, record, block, out),
-        3 => play_writing(call, record, block, out),
-        7 => play_mesh(call, record, mesh, block, told),
-        8 => play_mesh(call, record, mesh, block, told),
-        _ => play_changing(call, record, block, told),
+    if 9 <= call {
+        return play_block(true, call - 9, record, block, told, out);
     }
+    if 7 <= call {
+        return play_mesh(call, record, mesh, block, told);
+    }
+    play_block(false, call, record, block, told, out)
 }
 
-fn add_one(counts: &mut [u64; 512], i: usize) {
-    if i < 512 {
+fn add_one(counts: &mut [u64; 1024], i: usize) {
+    if i < 1024 {
         if counts[i] < 1000000 {
             counts[i] = counts[i] + 1;
         }
     }
 }
 
-fn count_at(counts: &[u64; 512], i: usize) -> u64 {
-    if i < 512 {
+fn count_at(counts: &[u64; 1024], i: usize) -> u64 {
+    if i < 1024 {
         return counts[i];
     }
     0
@@ -100,20 +121,20 @@ fn count_at(counts: &[u64; 512], i: usize) -> u64 {
 
 // Where records of a call with an answer are counted: 32 counts a call, and the last for what is none.
 fn place(call: usize, answer: usize) -> usize {
-    if call < 9 {
+    if call < 16 {
         if answer < 32 {
             return call * 32 + answer;
         }
     }
-    511
+    1023
 }
 
 // Where records are counted by what was found: as told, another answer, other content, unreadable, passed over.
 fn found(result: usize) -> usize {
     if result < 5 {
-        return 400 + result;
+        return 512 + result;
     }
-    511
+    1023
 }
 
 fn say(record: u64, call: u8, result: u32) {
@@ -131,7 +152,7 @@ fn say(record: u64, call: u8, result: u32) {
 }
 
 // Counts a record, and says so if it is not as told.
-fn tell(record: u64, call: u8, answer: u32, result: u32, counts: &mut [u64; 512]) {
+fn tell(record: u64, call: u8, answer: u32, result: u32, counts: &mut [u64; 1024]) {
     add_one(counts, found(size(result)));
     if result == vectors::AS_TOLD {
         add_one(counts, place(byte_size(call), size(answer)));
@@ -140,70 +161,78 @@ fn tell(record: u64, call: u8, answer: u32, result: u32, counts: &mut [u64; 512]
     }
 }
 
-// Plays the record from a place up to another.
-fn play_part(
+// Reads a record of n bytes to the start of a room; whether it is whole.
+fn read_record(n: usize, room: &mut [u8]) -> bool {
+    if n <= room.len() {
+        return io::read_full(0, &mut room[0..n]) == n;
+    }
+    false
+}
+
+// Plays the record of n bytes at the start of a room.
+fn play_record(
     number: u64,
     call: u8,
-    input: &[u8],
-    from: usize,
-    end: usize,
+    n: usize,
+    room: &[u8],
     mesh: &mut [u64],
     block: &mut [u64],
     told: &mut [u64],
     out: &mut [u8],
-    counts: &mut [u64; 512],
+    counts: &mut [u64; 1024],
 ) {
-    if from <= end {
-        if end <= input.len() {
-            let record = &input[from..end];
-            let result = play(call, record, mesh, block, told, out);
-            tell(number, call, vectors::told_answer(record), result, counts);
-        }
+    if n <= room.len() {
+        let record = &room[0..n];
+        let result = play(call, record, mesh, block, told, out);
+        tell(number, call, vectors::told_answer(record), result, counts);
     }
+}
+
+// Reads and plays the next record, behind so many others; whether there was one.
+fn play_next(
+    number: u64,
+    room: &mut [u8],
+    mesh: &mut [u64],
+    block: &mut [u64],
+    told: &mut [u64],
+    out: &mut [u8],
+    counts: &mut [u64; 1024],
+) -> bool {
+    let mut head = [0u8; 5];
+    let got = io::read_full(0, &mut head);
+    if got == 0 {
+        return false;
+    }
+    let n = cursor::short(&head, 1);
+    if (got < 5) | !read_record(n, room) {
+        io::write_all(1, b"the input is cut off, or a record is too long\n");
+        return false;
+    }
+    play_record(number, head[0], n, room, mesh, block, told, out, counts);
+    true
 }
 
 // Plays record after record.
 fn play_all(
-    input: &[u8],
+    room: &mut [u8],
     mesh: &mut [u64],
     block: &mut [u64],
     told: &mut [u64],
     out: &mut [u8],
-    counts: &mut [u64; 512],
+    counts: &mut [u64; 1024],
 ) {
-    let mut at = 0;
+    // Before the next record there are `number` others.
     let mut number = 0;
-    // The next record stands at `at`; before it there are `number` others.
     while number < 1000000 {
-        if input.len() <= at {
+        if !play_next(number, room, mesh, block, told, out, counts) {
             return;
         }
-        let length = cursor::step(input, at, 1);
-        let from = cursor::step(input, at, 5);
-        let end = cursor::bytes_end(input, length);
-        if input.len() < end {
-            io::write_all(1, b"the input is cut off\n");
-            return;
-        }
-        play_part(
-            number,
-            cursor::byte(input, at),
-            input,
-            from,
-            end,
-            mesh,
-            block,
-            told,
-            out,
-            counts,
-        );
-        at = end;
         number += 1;
     }
 }
 
 // An answer that occurred, and how often.
-fn show_answer(counts: &[u64; 512], call: usize, answer: usize) {
+fn show_answer(counts: &[u64; 1024], call: usize, answer: usize) {
     let n = count_at(counts, place(call, answer));
     if n > 0 {
         io::print_decimal(1, answer as u64);
@@ -214,23 +243,23 @@ fn show_answer(counts: &[u64; 512], call: usize, answer: usize) {
 }
 
 // A call and its answers.
-fn show_call(counts: &[u64; 512], call: u8) {
+fn show_call(counts: &[u64; 1024], call: u8) {
     name(call);
     io::write_all(1, b"\n");
     let mut answer: usize = 0;
-    while answer < 29 {
+    while answer < 30 {
         show_answer(counts, byte_size(call), answer);
         answer += 1;
     }
 }
 
-fn show_found(counts: &[u64; 512], what: &[u8], result: u32) {
+fn show_found(counts: &[u64; 1024], what: &[u8], result: u32) {
     io::write_all(1, what);
     io::print_decimal(1, count_at(counts, found(size(result))));
     io::write_all(1, b"\n");
 }
 
-fn show(counts: &[u64; 512]) {
+fn show(counts: &[u64; 1024]) {
     show_call(counts, 0);
     show_call(counts, 1);
     show_call(counts, 2);
@@ -240,6 +269,13 @@ fn show(counts: &[u64; 512]) {
     show_call(counts, 6);
     show_call(counts, 7);
     show_call(counts, 8);
+    show_call(counts, 9);
+    show_call(counts, 10);
+    show_call(counts, 11);
+    show_call(counts, 12);
+    show_call(counts, 13);
+    show_call(counts, 14);
+    show_call(counts, 15);
     show_found(counts, b"as told: ", vectors::AS_TOLD);
     show_found(counts, b"another answer: ", vectors::OTHER_ANSWER);
     show_found(counts, b"other content: ", vectors::OTHER_CONTENT);
@@ -247,34 +283,15 @@ fn show(counts: &[u64; 512]) {
     show_found(counts, b"passed over: ", vectors::PASSED_OVER);
 }
 
-// Plays the first n bytes; an input that fills its room may have been longer.
-fn run(
-    input: &[u8],
-    n: usize,
-    mesh: &mut [u64],
-    block: &mut [u64],
-    told: &mut [u64],
-    out: &mut [u8],
-    counts: &mut [u64; 512],
-) {
-    if n < input.len() {
-        play_all(&input[..n], mesh, block, told, out, counts);
-    } else {
-        io::write_all(1, b"the input is too long\n");
-    }
-}
-
 fn main() {
-    let mut input = [0u8; 589824];
+    let mut room = [0u8; 131072];
     let mut mesh = [0u64; 196656];
     let mut block = [0u64; 65552];
     let mut told = [0u64; 65552];
     let mut out = [0u8; 262144];
-    let mut counts = [0u64; 512];
-    let n = io::read_full(0, &mut input);
-    run(
-        &input,
-        n,
+    let mut counts = [0u64; 1024];
+    play_all(
+        &mut room,
         &mut mesh,
         &mut block,
         &mut told,

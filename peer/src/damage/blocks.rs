@@ -1,11 +1,13 @@
 //! Damage to blocks: values that break one rule, images that are none, and their files.
 
+use super::messages::fill;
 use super::{bytes, some_block, some_serial, Way};
 use crate::cases::{Case, UNWRITTEN};
 use crate::file;
-use crate::image::{self, RECORD, WORDS};
+use crate::image::{self, RECORD};
 use crate::rng::Rng;
-use crate::value::{Block, Label, Third, MAX_POSITION};
+use crate::value::{Block, Label, Site, Third, MAX_POSITION};
+use std::collections::BTreeSet;
 
 /// Alters a block in one place; false when the block has no such place.
 type Change = fn(&mut Rng, &mut Block) -> bool;
@@ -195,19 +197,21 @@ const WORD_CHANGES: &[(&str, WordChange)] = &[
     ("block number 16", |_, w, _| set(w, 0, 16)),
     ("block number far off", |_, w, _| set(w, 0, 1 << 40)),
     ("counter 2^32", |_, w, _| set(w, 1, 1 << 32)),
-    ("dart count 4,097", |_, w, _| set(w, 2, 4097)),
+    ("dart count one past the most", |_, w, _| set(w, 2, most(w) as u64 + 1)),
+    ("dart count two past the most", |_, w, _| set(w, 2, most(w) as u64 + 2)),
+    ("dart count of the rack", |_, w, _| set(w, 2, 4096)),
     ("dart count far off", |_, w, _| set(w, 2, u64::MAX)),
     ("a dart too few", |_, w, n| n > 0 && set(w, 2, n as u64 - 1)),
-    ("a dart too many", |_, w, n| n < 4096 && set(w, 2, n as u64 + 1)),
+    ("a dart too many", |_, w, n| n < most(w) && set(w, 2, n as u64 + 1)),
     ("a header word not zero", |rng, w, _| {
         let at = rng.between(3, 7);
         set(w, at, 1)
     }),
     ("a word behind the darts", |rng, w, n| {
-        let at = RECORD * (1 + n) + rng.below(WORDS - RECORD * (1 + n));
-        n < 4096 && set(w, at, 1 << rng.below(64))
+        let at = RECORD * (1 + n) + rng.below(w.len() - RECORD * (1 + n));
+        n < most(w) && set(w, at, 1 << rng.below(64))
     }),
-    ("the last word not zero", |_, w, n| n < 4096 && set(w, WORDS - 1, 1)),
+    ("the last word not zero", |_, w, n| n < most(w) && set(w, w.len() - 1, 1)),
     ("serial 0", |_, w, n| n > 0 && set(w, RECORD, 0)),
     ("serial 2^32", |_, w, n| n > 0 && set(w, RECORD * n, 1 << 32)),
     ("serials not ascending", |rng, w, n| {
@@ -249,6 +253,11 @@ const WORD_CHANGES: &[(&str, WordChange)] = &[
     }),
 ];
 
+/// Darts that memory has room for.
+fn most(words: &[u64]) -> usize {
+    words.len() / RECORD - 1
+}
+
 fn set(words: &mut [u64], at: usize, value: u64) -> bool {
     words[at] = value;
     true
@@ -279,11 +288,11 @@ fn link_of_kind(rng: &mut Rng, words: &mut [u64], count: usize, kind: u64, link:
 }
 
 /// Memories that are no sound block's image.
-pub fn images(rng: &mut Rng, block: &Block) -> Vec<(&'static str, Vec<u64>)> {
+pub fn images(rng: &mut Rng, site: Site, block: &Block) -> Vec<(&'static str, Vec<u64>)> {
     let mut found: Vec<(&'static str, Vec<u64>)> =
-        changed(rng, block).into_iter().map(|(way, block)| (way, image::encode(&block))).collect();
+        changed(rng, block).into_iter().map(|(way, block)| (way, image::encode_at(site, &block))).collect();
     for (way, change) in WORD_CHANGES {
-        let mut words = image::encode(block);
+        let mut words = image::encode_at(site, block);
         if change(rng, &mut words, block.darts.len()) {
             found.push((*way, words));
         }
@@ -292,11 +301,17 @@ pub fn images(rng: &mut Rng, block: &Block) -> Vec<(&'static str, Vec<u64>)> {
 }
 
 /// Memories of a wrong size.
-pub fn wrong_sizes(block: &Block) -> Vec<(&'static str, Vec<u64>)> {
-    let words = image::encode(block);
+pub fn wrong_sizes(site: Site, block: &Block) -> Vec<(&'static str, Vec<u64>)> {
+    let words = image::encode_at(site, block);
     let longer = [&words[..], &[0]].concat();
+    let (way, other) = match site {
+        Site::Rack => ("memory of a viewer", Site::Viewer),
+        Site::Viewer => ("memory of the rack", Site::Rack),
+    };
     vec![
-        ("memory a word short", words[..WORDS - 1].to_vec()),
+        (way, image::encode_at(other, block)),
+        ("memory a word short", words[..words.len() - 1].to_vec()),
+        ("memory a dart short", words[..words.len() - RECORD].to_vec()),
         ("memory a word long", longer),
         ("no memory", Vec::new()),
         ("the header alone", words[..RECORD].to_vec()),
@@ -305,16 +320,17 @@ pub fn wrong_sizes(block: &Block) -> Vec<(&'static str, Vec<u64>)> {
 }
 
 /// All memories refused by 1 or 2, and some that are not.
-pub fn memories(rng: &mut Rng, block: &Block) -> Vec<(&'static str, Vec<u64>)> {
-    let mut found = wrong_sizes(block);
-    found.extend(images(rng, block));
+pub fn memories(rng: &mut Rng, site: Site, block: &Block) -> Vec<(&'static str, Vec<u64>)> {
+    let mut found = wrong_sizes(site, block);
+    found.extend(images(rng, site, block));
     found
 }
 
-/// Cases of read_file.
-pub fn read_file(rng: &mut Rng, mesh: &[Block]) -> Vec<Way> {
-    let block = some_block(rng, mesh).clone();
-    let stale = image::encode(some_block(rng, mesh));
+/// Cases of read_file: of any block, into memory that holds one which the site can hold.
+pub fn read_file(rng: &mut Rng, site: Site, mesh: &[Block], held: &[Block]) -> Vec<Way> {
+    let from = if rng.one_in(8) { mesh } else { held };
+    let block = some_block(rng, from).clone();
+    let stale = image::encode_at(site, some_block(rng, held));
     let good = file::encode(&block);
     let mut files = vec![("as it is", good.clone())];
     files.extend(changed(rng, &block).into_iter().map(|(way, block)| (way, file::encode(&block))));
@@ -331,24 +347,32 @@ pub fn read_file(rng: &mut Rng, mesh: &[Block]) -> Vec<Way> {
         }
     }
     let mut ways: Vec<Way> =
-        files.into_iter().map(|(way, file)| (way, Case::ReadFile { file, block: stale.clone() })).collect();
-    for (way, memory) in wrong_sizes(&block) {
-        ways.push((way, Case::ReadFile { file: good.clone(), block: memory }));
+        files.into_iter().map(|(way, file)| (way, Case::ReadFile { site, file, block: stale.clone() })).collect();
+    for (way, memory) in wrong_sizes(site, &block) {
+        ways.push((way, Case::ReadFile { site, file: good.clone(), block: memory }));
     }
     // Any words are good memory to read into.
-    let noise = (0..WORDS).map(|_| rng.bits()).collect();
-    ways.push(("into noise", Case::ReadFile { file: good, block: noise }));
+    let noise = (0..site.words()).map(|_| rng.bits()).collect();
+    ways.push(("into noise", Case::ReadFile { site, file: good, block: noise }));
+    if site == Site::Viewer && rng.one_in(4) {
+        let most = site.limits().darts;
+        for (way, goal) in [("a full block", most), ("two darts past the most", most + 2), ("twice the most", 2 * most)]
+        {
+            let Some(full) = fill(rng, &block, goal, &BTreeSet::new()) else { continue };
+            ways.push((way, Case::ReadFile { site, file: file::encode(&full), block: stale.clone() }));
+        }
+    }
     ways
 }
 
 /// Cases of save_file.
-pub fn save_file(rng: &mut Rng, mesh: &[Block]) -> Vec<Way> {
-    let block = some_block(rng, mesh);
-    let words = image::encode(block);
+pub fn save_file(rng: &mut Rng, site: Site, held: &[Block]) -> Vec<Way> {
+    let block = some_block(rng, held);
+    let words = image::encode_at(site, block);
     let length = file::encode(block).len();
-    let case = |block: Vec<u64>, room: usize| Case::SaveFile { block, out: vec![0xa5; room], written: UNWRITTEN };
+    let case = |block: Vec<u64>, room: usize| Case::SaveFile { site, block, out: vec![0xa5; room], written: UNWRITTEN };
     let mut ways: Vec<Way> =
-        memories(rng, block).into_iter().map(|(way, words)| (way, case(words, length + 9))).collect();
+        memories(rng, site, block).into_iter().map(|(way, words)| (way, case(words, length + 9))).collect();
     for (way, room) in [
         ("room to spare", length + 40),
         ("room that just fits", length),

@@ -73,6 +73,7 @@ const LIMITS: &[(&str, u64, &str)] = &[
     ("position", 4096, "position 4,096"),
     ("kind", 3, "kind 3"),
     ("kind", 0, "kind 0"),
+    ("darts", 257, "a count of 257 darts"),
     ("darts", 4097, "a count of 4,097 darts"),
     ("vertices", u32::MAX as u64, "a count of 2^32 − 1 vertices"),
     ("faces", u32::MAX as u64, "a count of 2^32 − 1 faces"),

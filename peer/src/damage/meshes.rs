@@ -1,16 +1,17 @@
 //! Damage to meshes: blocks that are sound one by one, but not together.
 
 use super::blocks::{self, change_face};
+use super::messages::fill;
 use super::{some_serial, Way};
 use crate::cases::Case;
 use crate::cells;
-use crate::generate;
+use crate::generate::{self, Mesh};
 use crate::image::{self, ANSWER, SCRATCH, WORDS};
 use crate::lent::OracleNumbers;
 use crate::rng::Rng;
 use crate::shapes::{self, Map};
 use crate::sound;
-use crate::value::{Block, Label, Point, Third, MAX_DARTS};
+use crate::value::{Block, Label, Point, Site, Third, Viewers, RACK, VIEWER_DARTS};
 use std::collections::BTreeSet;
 
 /// Alters a mesh in one place; false when it has no such place.
@@ -244,8 +245,52 @@ fn words(mesh: &[Block]) -> Vec<u64> {
     mesh.iter().flat_map(image::encode).collect()
 }
 
-/// Meshes with their scratch, for questions 1, 2 and 23 to 27.
-fn lent(rng: &mut Rng, mesh: &[Block]) -> Vec<(&'static str, Vec<u64>, Vec<u64>)> {
+/// Meshes about a viewer's 256 darts: which bit tells of a block, and that of no other.
+fn about_viewers(rng: &mut Rng, mesh: &Mesh) -> Vec<(&'static str, Vec<u64>, Viewers)> {
+    let Mesh { blocks, viewers } = mesh;
+    let mut found = vec![
+        ("every block a viewer's", words(blocks), Viewers(u32::MAX)),
+        ("bits of no block", words(blocks), Viewers(viewers.0 ^ u32::MAX << blocks.len())),
+        ("bits 16 to 31", words(blocks), Viewers(0xffff_0000)),
+        ("any bits", words(blocks), Viewers(rng.bits() as u32)),
+    ];
+    let taken: BTreeSet<u32> = blocks.iter().flat_map(|block| block.darts.keys().copied()).collect();
+    let place = rng.below(blocks.len());
+    let bit = 1 << place;
+    for (way, goal, viewers) in [
+        ("a viewer's block of 256 darts", VIEWER_DARTS, Viewers(bit)),
+        ("a viewer's block of 258 darts", VIEWER_DARTS + 2, Viewers(bit | viewers.0)),
+        ("258 darts in a block of the rack", VIEWER_DARTS + 2, Viewers(viewers.0 & !bit)),
+        ("258 darts, every other bit", VIEWER_DARTS + 2, Viewers(!bit)),
+    ] {
+        let Some(full) = fill(rng, &blocks[place], goal, &taken) else { continue };
+        let mut other = blocks.clone();
+        other[place] = full;
+        found.push((way, words(&other), viewers));
+        // The number in the image tells, not the place: 2 comes before 23.
+        let elsewhere = rng.below(blocks.len());
+        if elsewhere != place {
+            other.swap(place, elsewhere);
+            found.push(("258 darts or less in another place", words(&other), viewers));
+            found.push(("258 darts or less, the bit of the place", words(&other), Viewers(1 << elsewhere)));
+        }
+    }
+    found
+}
+
+/// Meshes with their viewers and scratch, for questions 1, 2 and 23 to 27.
+fn lent(rng: &mut Rng, whole: &Mesh) -> Vec<(&'static str, Vec<u64>, Viewers, Vec<u64>)> {
+    let zero = vec![0; SCRATCH];
+    let about = about_viewers(rng, whole);
+    let mut found: Vec<_> =
+        about.into_iter().map(|(way, words, viewers)| (way, words, viewers, zero.clone())).collect();
+    let others = damaged(rng, &whole.blocks);
+    found.extend(others.into_iter().map(|(way, words, scratch)| (way, words, whole.viewers, scratch)));
+    found
+}
+
+/// Meshes with their scratch, whoever keeps the blocks.
+fn damaged(rng: &mut Rng, mesh: &[Block]) -> Vec<(&'static str, Vec<u64>, Vec<u64>)> {
     let good = words(mesh);
     let zero = vec![0; SCRATCH];
     let mut found = vec![("as it is", good.clone(), zero.clone())];
@@ -259,7 +304,8 @@ fn lent(rng: &mut Rng, mesh: &[Block]) -> Vec<(&'static str, Vec<u64>, Vec<u64>)
         // The second change walks faces, so the first must leave sound blocks.
         let mut other = mesh.to_vec();
         let (Some((_, first)), Some((_, second))) = (rng.pick(CHANGES), rng.pick(CHANGES)) else { break };
-        let sound = first(rng, &mut other) && !other.is_empty() && other.iter().all(sound::is_sound);
+        let sound =
+            first(rng, &mut other) && !other.is_empty() && other.iter().all(|block| sound::is_sound(block, RACK));
         if sound && second(rng, &mut other) {
             found.push(("two things altered", words(&other), zero.clone()));
         }
@@ -272,7 +318,7 @@ fn lent(rng: &mut Rng, mesh: &[Block]) -> Vec<(&'static str, Vec<u64>, Vec<u64>)
     word[at] ^= 1 << rng.below(64);
     found.push(("a bit of the mesh flipped", word, zero.clone()));
     let block = rng.below(mesh.len());
-    for (way, image) in blocks::images(rng, &mesh[block]) {
+    for (way, image) in blocks::images(rng, Site::Rack, &mesh[block]) {
         if rng.one_in(6) {
             let mut other = good.clone();
             other[block * WORDS..(block + 1) * WORDS].copy_from_slice(&image);
@@ -299,8 +345,9 @@ fn lent(rng: &mut Rng, mesh: &[Block]) -> Vec<(&'static str, Vec<u64>, Vec<u64>)
 }
 
 /// Cases of check_mesh.
-pub fn check_mesh(rng: &mut Rng, mesh: &[Block]) -> Vec<Way> {
-    lent(rng, mesh).into_iter().map(|(way, mesh, scratch)| (way, Case::CheckMesh { mesh, scratch })).collect()
+pub fn check_mesh(rng: &mut Rng, mesh: &Mesh) -> Vec<Way> {
+    let lent = lent(rng, mesh).into_iter();
+    lent.map(|(way, mesh, viewers, scratch)| (way, Case::CheckMesh { mesh, viewers, scratch })).collect()
 }
 
 /// Oracles that are right, and each way of being wrong.
@@ -364,6 +411,7 @@ struct Piles {
     home: Vec<usize>,
     points: Vec<Point>,
     blocks: usize,
+    viewers: Viewers,
 }
 
 /// The sides of a pillow, and where on the first axis it lies.
@@ -390,20 +438,35 @@ impl Piles {
 
     /// Fills a block with one volume up to room for so many darts.
     fn fill(&mut self, block: usize, room: usize) {
-        let held = self.home.iter().filter(|home| **home == block).count();
-        self.add(block, ((MAX_DARTS - room - held) / 2, 0.0));
+        let held = self.held(block);
+        self.add(block, ((self.viewers.darts(block) - room).saturating_sub(held) / 2, 0.0));
     }
 
-    fn words(&self, rng: &mut Rng) -> Vec<u64> {
+    fn held(&self, block: usize) -> usize {
+        self.home.iter().filter(|home| **home == block).count()
+    }
+
+    /// Some of the blocks that are small enough are viewers', and any bits of blocks that are not there.
+    fn give_viewers(&mut self, rng: &mut Rng) {
+        let mut bits = rng.bits() as u32 & rng.bits() as u32 | 1 << rng.below(self.blocks);
+        for block in (0..self.blocks).filter(|block| self.held(*block) > VIEWER_DARTS) {
+            bits &= !(1 << block);
+        }
+        self.viewers = Viewers(bits);
+    }
+
+    fn mesh(&self, rng: &mut Rng) -> Mesh {
         let mut serials: Vec<u32> = (1..=self.map.len() as u32).collect();
         rng.shuffle(&mut serials);
         let labels = vec![None; self.map.len()];
-        words(&generate::assemble(&self.map, &self.home, &serials, &self.points, &labels, &vec![0; self.blocks]))
+        let counters = vec![0; self.blocks];
+        let blocks = generate::assemble(&self.map, &self.home, &serials, &self.points, &labels, &counters);
+        Mesh { blocks, viewers: self.viewers }
     }
 }
 
 /// Meshes of drawn counts with their oracles.
-fn piles(rng: &mut Rng) -> Vec<(&'static str, Vec<u64>, OracleNumbers)> {
+fn piles(rng: &mut Rng) -> Vec<(&'static str, Mesh, OracleNumbers)> {
     let every = OracleNumbers { oracle: 0, axis: 0, floats: [0; 6] };
     let origin = OracleNumbers { oracle: 1, ..every };
     // Pillows of two sides are refused by 13.
@@ -416,33 +479,60 @@ fn piles(rng: &mut Rng) -> Vec<(&'static str, Vec<u64>, OracleNumbers)> {
     let mut found = Vec::new();
     for (way, pillow, oracle) in ways {
         for _ in 0..2 {
-            let words = Piles::draw(rng, pillow).words(rng);
-            found.push((way, words, oracle));
+            let mesh = Piles::draw(rng, pillow).mesh(rng);
+            found.push((way, mesh, oracle));
         }
+    }
+    // A plane that cuts every pillow between its first two corners.
+    let plane = OracleNumbers { oracle: 2, axis: 0, floats: [0.5f64.to_bits(), 0, 0, 0, 0, 0] };
+    for (way, pillow) in [
+        ("drawn counts, a plane cuts all, and they stay", (|_| (2, 0.0)) as Pillow),
+        ("drawn counts, a plane cuts all", |rng| (rng.between(2, 3), 0.0)),
+    ] {
+        let mut piles = Piles::draw(rng, pillow);
+        piles.points = piles.map.wished_points();
+        found.push((way, piles.mesh(rng), plane));
+    }
+    let ways: [(&str, Pillow); 4] = [
+        ("drawn counts with viewers", |_| (3, 0.0)),
+        ("drawn counts with viewers, some volumes stay", |rng| (rng.between(2, 3), 0.0)),
+        ("drawn counts with viewers, volumes of 64 and of 66 darts", |rng| (rng.between(32, 33), 0.0)),
+        ("drawn counts with viewers, volumes of 6 and of 66 darts", |rng| ([3, 33][rng.below(2)], 0.0)),
+    ];
+    for (way, pillow) in ways {
+        let mut piles = Piles::draw(rng, pillow);
+        piles.give_viewers(rng);
+        if rng.one_in(2) {
+            let block = rng.below(piles.blocks);
+            if piles.viewers.site(block) == Site::Viewer && piles.held(block) < VIEWER_DARTS - 14 {
+                piles.fill(block, 2 * rng.below(5));
+            }
+        }
+        found.push((way, piles.mesh(rng), every));
     }
     if rng.one_in(3) {
         let mut full = Piles::draw(rng, |_| (3, 0.0));
         // A pillow of three sides has six darts.
         full.fill(rng.below(full.blocks), 2 * rng.below(5));
-        found.push(("drawn counts, a block nearly full", full.words(rng), every));
+        found.push(("drawn counts, a block nearly full", full.mesh(rng), every));
     }
     found
 }
 
 /// Cases of next_move.
-pub fn next_move(rng: &mut Rng, mesh: &[Block]) -> Vec<Way> {
+pub fn next_move(rng: &mut Rng, mesh: &Mesh) -> Vec<Way> {
     const STALE: u64 = 0x77;
-    let good = words(mesh);
+    let (good, viewers) = (mesh.words(), mesh.viewers);
     let every = OracleNumbers { oracle: 0, axis: 0, floats: [0; 6] };
     let mut ways: Vec<Way> = Vec::new();
     for (way, oracle) in oracles(rng) {
         let (scratch, answer) = (vec![0; SCRATCH], vec![STALE; ANSWER]);
-        ways.push((way, Case::NextMove { mesh: good.clone(), oracle, scratch, answer }));
+        ways.push((way, Case::NextMove { mesh: good.clone(), viewers, oracle, scratch, answer }));
     }
-    for (way, mesh, scratch) in lent(rng, mesh) {
+    for (way, mesh, viewers, scratch) in lent(rng, mesh) {
         // A wrong oracle is asked last.
         let oracle = if rng.one_in(4) { OracleNumbers { oracle: 5, ..every } } else { every };
-        ways.push((way, Case::NextMove { mesh, oracle, scratch, answer: vec![STALE; ANSWER] }));
+        ways.push((way, Case::NextMove { mesh, viewers, oracle, scratch, answer: vec![STALE; ANSWER] }));
     }
     for (way, size) in [
         ("no answer", 0),
@@ -451,11 +541,12 @@ pub fn next_move(rng: &mut Rng, mesh: &[Block]) -> Vec<Way> {
         ("an answer of twenty-two words", 22),
     ] {
         let (scratch, answer) = (vec![0; SCRATCH], vec![STALE; size]);
-        ways.push((way, Case::NextMove { mesh: good.clone(), oracle: every, scratch, answer }));
+        ways.push((way, Case::NextMove { mesh: good.clone(), viewers, oracle: every, scratch, answer }));
     }
     for (way, mesh, oracle) in piles(rng) {
         let (scratch, answer) = (vec![0; SCRATCH], vec![STALE; ANSWER]);
-        ways.push((way, Case::NextMove { mesh, oracle, scratch, answer }));
+        let (mesh, viewers) = (mesh.words(), mesh.viewers);
+        ways.push((way, Case::NextMove { mesh, viewers, oracle, scratch, answer }));
     }
     ways
 }

@@ -8,7 +8,7 @@ use crate::groups::put_number;
 use crate::image;
 use crate::message::{self, Index, Message, Transfer, Update};
 use crate::rng::Rng;
-use crate::value::{Block, Label, Point, Third, MAX_CELL, MAX_DARTS};
+use crate::value::{Block, Label, Point, Site, Third, MAX_CELL, RACK, VIEWER_CELL};
 use std::collections::BTreeSet;
 
 /// Alters a transfer in one place; false when it has no such place.
@@ -28,6 +28,18 @@ const CHANGES: &[(&str, Change)] = &[
         add_pillow(t, (MAX_CELL + 2 - t.dart_count()) / 2) && t.faces[0].pop().is_some() && clear_parts(t)
     }),
     ("514 darts", |_, _, t| add_pillow(t, (MAX_CELL + 2 - t.dart_count()) / 2)),
+    // 29 at a viewer, 19 at the rack
+    ("66 darts or more", |_, _, t| add_to_66(t)),
+    ("66 darts or more, a serial 0", |rng, _, t| add_to_66(t) && set_serial(rng, t, 0)),
+    ("66 darts or more, x not a number", |rng, _, t| add_to_66(t) && spoil_point(rng, t, 0, f64::NAN)),
+    ("66 darts or more, to another block", |_, _, t| {
+        t.to = (t.to + 1) % 16;
+        add_to_66(t)
+    }),
+    ("66 darts or more, from the receiver", |_, _, t| {
+        t.from = t.to;
+        add_to_66(t)
+    }),
     // 17
     ("to another block", |_, _, t| {
         t.to = (t.to + 1) % 16;
@@ -345,6 +357,11 @@ fn add_pillow(t: &mut Transfer, n: usize) -> bool {
     true
 }
 
+/// A pillow behind the volume, so that there are more than 64 darts.
+fn add_to_66(t: &mut Transfer) -> bool {
+    add_pillow(t, 3.max((VIEWER_CELL + 3).saturating_sub(t.dart_count()) / 2))
+}
+
 fn spoil_point(rng: &mut Rng, t: &mut Transfer, axis: usize, float: f64) -> bool {
     shift(rng, t.points.len(), |at| t.points[at].0[axis] = float.to_bits())
 }
@@ -446,8 +463,9 @@ fn set_label4(rng: &mut Rng, t: &mut Transfer, label: Label) -> bool {
     true
 }
 
-/// A transfer from a mesh to one of its blocks, rich in parts; and the updates sent with it.
-fn some_round(rng: &mut Rng, mesh: &[Block]) -> Option<(Block, Transfer, Vec<Update>)> {
+/// A transfer from a mesh to one of its blocks that a site can hold, rich in parts; and the updates sent with it. The sender is
+/// the rack.
+fn some_round(rng: &mut Rng, site: Site, mesh: &[Block]) -> Option<(Block, Transfer, Vec<Update>)> {
     let mut best: Option<(usize, Block, Transfer, Vec<Update>)> = None;
     let mut tries: Vec<(usize, u32)> = Vec::new();
     for (from, block) in mesh.iter().enumerate() {
@@ -458,7 +476,10 @@ fn some_round(rng: &mut Rng, mesh: &[Block]) -> Option<(Block, Transfer, Vec<Upd
     rng.shuffle(&mut tries);
     for (from, serial) in tries.into_iter().take(24) {
         let to = rng.below(mesh.len());
-        let Ok(sent) = calls::send(&mesh[from], to as u64, u64::from(serial), usize::MAX) else { continue };
+        if mesh[to].darts.len() > site.limits().darts {
+            continue;
+        }
+        let Ok(sent) = calls::send(RACK, &mesh[from], to as u64, u64::from(serial), usize::MAX) else { continue };
         let Some(messages) = message::split(&sent) else { continue };
         let mut updates = Vec::new();
         let mut transfer = None;
@@ -503,8 +524,8 @@ fn frames(good: &[u8]) -> Vec<(&'static str, Vec<u8>)> {
 }
 
 /// Cases of receive.
-pub fn receive(rng: &mut Rng, mesh: &[Block]) -> Vec<Way> {
-    let Some((block, transfer, updates)) = some_round(rng, mesh) else { return Vec::new() };
+pub fn receive(rng: &mut Rng, site: Site, mesh: &[Block]) -> Vec<Way> {
+    let Some((block, transfer, updates)) = some_round(rng, site, mesh) else { return Vec::new() };
     let good = message::encode(&Message::Transfer(transfer.clone()));
     let mut messages = vec![("as it is", good.clone())];
     for (way, change) in CHANGES {
@@ -526,29 +547,49 @@ pub fn receive(rng: &mut Rng, mesh: &[Block]) -> Vec<Way> {
     }
     let no_labels = Update { from: transfer.from, to: transfer.to, new: 0, labels: Vec::new() };
     messages.push(("an update without labels", message::encode(&Message::Update(no_labels))));
-    let words = image::encode(&block);
-    let mut ways: Vec<Way> =
-        messages.into_iter().map(|(way, message)| (way, Case::Receive { block: words.clone(), message })).collect();
-    for (way, block) in blocks::memories(rng, &block) {
-        ways.push((way, Case::Receive { block, message: good.clone() }));
-    }
     if rng.one_in(4) {
-        ways.extend(nearly_full(rng, &block, &transfer));
+        messages.extend(whole_cells(&block, transfer.from));
+    }
+    let words = image::encode_at(site, &block);
+    let mut ways: Vec<Way> = messages
+        .into_iter()
+        .map(|(way, message)| (way, Case::Receive { site, block: words.clone(), message }))
+        .collect();
+    for (way, block) in blocks::memories(rng, site, &block) {
+        ways.push((way, Case::Receive { site, block, message: good.clone() }));
+    }
+    if site == Site::Viewer || rng.one_in(4) {
+        ways.extend(nearly_full(rng, site, &block, &transfer));
     }
     ways
 }
 
+/// Transfers of cells that are right but for their size.
+fn whole_cells(block: &Block, from: u8) -> Vec<(&'static str, Vec<u8>)> {
+    let mut found = Vec::new();
+    for (way, n) in [("a cell of 64 darts", 32), ("a cell of 66 darts", 33), ("a cell of 512 darts", 256)] {
+        let cell = Block { number: from, ..super::requests::pillow_block(n, 0) };
+        if let Ok(sent) = calls::send(RACK, &cell, u64::from(block.number), 1, usize::MAX) {
+            found.push((way, sent));
+        }
+    }
+    found
+}
+
 /// The receiver filled up to where the volume just fits, and two darts further.
-fn nearly_full(rng: &mut Rng, block: &Block, transfer: &Transfer) -> Vec<Way> {
+fn nearly_full(rng: &mut Rng, site: Site, block: &Block, transfer: &Transfer) -> Vec<Way> {
     let message = message::encode(&Message::Transfer(transfer.clone()));
-    let room = MAX_DARTS - transfer.dart_count();
+    let most = site.limits().darts;
+    let room = most.saturating_sub(transfer.dart_count());
     let taken: BTreeSet<u32> = transfer.faces.iter().flatten().map(|corner| corner.1).collect();
     let mut ways = Vec::new();
     for (way, goal) in
-        [("room for just this volume", room), ("room for all but two darts", room + 2), ("no room", MAX_DARTS)]
+        [("room for just this volume", room), ("room for all but two darts", room + 2), ("no room", most)]
     {
         let Some(full) = fill(rng, block, goal, &taken) else { continue };
-        ways.push((way, Case::Receive { block: image::encode(&full), message: message.clone() }));
+        if full.darts.len() <= most {
+            ways.push((way, Case::Receive { site, block: image::encode_at(site, &full), message: message.clone() }));
+        }
     }
     ways
 }
@@ -640,12 +681,13 @@ const UPDATE_CHANGES: &[(&str, UpdateChange)] = &[
 ];
 
 /// Cases of redirect.
-pub fn redirect(rng: &mut Rng, mesh: &[Block]) -> Vec<Way> {
+pub fn redirect(rng: &mut Rng, site: Site, mesh: &[Block]) -> Vec<Way> {
     let mut found = None;
     let mut plain = None;
     for _ in 0..8 {
-        if let Some((_, transfer, updates)) = some_round(rng, mesh) {
-            found = updates.into_iter().max_by_key(|update| update.labels.len()).or(found);
+        if let Some((_, transfer, updates)) = some_round(rng, Site::Rack, mesh) {
+            let held = |update: &Update| mesh[usize::from(update.to)].darts.len() <= site.limits().darts;
+            found = updates.into_iter().filter(held).max_by_key(|update| update.labels.len()).or(found);
             plain = Some(transfer);
         }
     }
@@ -667,14 +709,19 @@ pub fn redirect(rng: &mut Rng, mesh: &[Block]) -> Vec<Way> {
     }
     messages.extend(bytes::raw(rng, &good));
     messages.extend(frames(&good));
-    if let Some(transfer) = plain {
-        messages.push(("a transfer", message::encode(&Message::Transfer(transfer))));
+    if let Some(mut transfer) = plain {
+        messages.push(("a transfer", message::encode(&Message::Transfer(transfer.clone()))));
+        if add_to_66(&mut transfer) {
+            messages.push(("a transfer of 66 darts or more", message::encode(&Message::Transfer(transfer))));
+        }
     }
-    let words = image::encode(block);
-    let mut ways: Vec<Way> =
-        messages.into_iter().map(|(way, message)| (way, Case::Redirect { block: words.clone(), message })).collect();
-    for (way, block) in blocks::memories(rng, block) {
-        ways.push((way, Case::Redirect { block, message: good.clone() }));
+    let words = image::encode_at(site, block);
+    let mut ways: Vec<Way> = messages
+        .into_iter()
+        .map(|(way, message)| (way, Case::Redirect { site, block: words.clone(), message }))
+        .collect();
+    for (way, block) in blocks::memories(rng, site, block) {
+        ways.push((way, Case::Redirect { site, block, message: good.clone() }));
     }
     ways
 }

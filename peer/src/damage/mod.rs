@@ -9,24 +9,30 @@ pub mod messages;
 pub mod requests;
 
 use crate::cases::{Call, Case};
+use crate::generate::Mesh;
 use crate::rng::Rng;
 use crate::value::Block;
 
 /// A case and the way it was made.
 pub type Way = (&'static str, Case);
 
-/// Cases of one call, drawn from one mesh.
-pub fn batch(rng: &mut Rng, call: Call, mesh: &[Block]) -> Vec<Way> {
-    match call {
-        Call::Empty => requests::empty(rng),
-        Call::ReadFile => blocks::read_file(rng, mesh),
-        Call::SaveFile => blocks::save_file(rng, mesh),
-        Call::Send => requests::send(rng, mesh),
-        Call::Receive => messages::receive(rng, mesh),
-        Call::Release => requests::release(rng, mesh),
-        Call::Redirect => messages::redirect(rng, mesh),
+/// Cases of one call, drawn from one mesh. A viewer's call gets a block that a viewer can hold, whoever keeps it in the mesh.
+pub fn batch(rng: &mut Rng, call: Call, mesh: &Mesh) -> Vec<Way> {
+    let site = call.site();
+    let fitting = |block: &Block| block.darts.len() <= site.limits().darts;
+    let blocks = &mesh.blocks;
+    let held: Vec<Block> = blocks.iter().filter(|block| fitting(block)).cloned().collect();
+    match call.on_the_rack() {
+        Call::Empty => requests::empty(rng, site),
         Call::CheckMesh => meshes::check_mesh(rng, mesh),
         Call::NextMove => meshes::next_move(rng, mesh),
+        Call::Receive => messages::receive(rng, site, blocks),
+        Call::Redirect => messages::redirect(rng, site, blocks),
+        _ if held.is_empty() => Vec::new(),
+        Call::ReadFile => blocks::read_file(rng, site, blocks, &held),
+        Call::SaveFile => blocks::save_file(rng, site, &held),
+        Call::Send => requests::send(rng, site, &held),
+        _ => requests::release(rng, site, &held),
     }
 }
 

@@ -1,9 +1,8 @@
 //! A volume that may leave (questions 9 to 14), and its removal.
 
-use super::sound::{records, records_mut, Record};
+use super::sound::{most_of_a_cell, records, records_mut, Record};
 use crate::value::{MAX_CELL, MAX_DARTS};
 
-const MASK: usize = MAX_DARTS - 1;
 const NONE: u16 = u16::MAX;
 
 /// A face of the cell: where it starts in message order, its size, its kind word.
@@ -66,19 +65,19 @@ impl Cell {
         new
     }
 
-    /// Question 11: the volume of a place, unless it has more than 512 darts.
-    fn walk(&mut self, darts: &[Record; MAX_DARTS], start: usize) -> bool {
-        self.inside.fill(0);
+    /// Question 11: the volume of a place, unless it has more darts than `most`, which are 512 or 64.
+    fn walk<const D: usize>(&mut self, darts: &[Record; D], start: usize, most: usize) -> bool {
+        self.inside[..D / 64].fill(0);
         self.enter(start);
         self.open[0] = start as u16;
         let mut open = 1;
         self.count = 1;
         while open > 0 {
             open -= 1;
-            let dart = &darts[usize::from(self.open[open]) & MASK];
-            for neighbour in [dart[1] as usize & MASK, dart[2] as usize & MASK] {
+            let dart = &darts[usize::from(self.open[open]) & (D - 1)];
+            for neighbour in [dart[1] as usize & (D - 1), dart[2] as usize & (D - 1)] {
                 if self.enter(neighbour) {
-                    if self.count == MAX_CELL {
+                    if self.count == most {
                         return false;
                     }
                     self.open[open] = neighbour as u16;
@@ -91,12 +90,12 @@ impl Cell {
     }
 
     /// Message order: faces by least place, which is least serial, along next.
-    fn arrange(&mut self, darts: &[Record; MAX_DARTS]) {
+    fn arrange<const D: usize>(&mut self, darts: &[Record; D]) {
         let mut left = self.inside;
         let mut index = 0;
         self.face_count = 0;
         self.fresh = 0;
-        for word in 0..left.len() {
+        for word in 0..D / 64 {
             while left[word] != 0 {
                 let start = word * 64 + left[word].trailing_zeros() as usize;
                 let first = index;
@@ -106,7 +105,7 @@ impl Cell {
                     self.order[index & (MAX_CELL - 1)] = place as u16;
                     self.index[place] = index as u16;
                     index += 1;
-                    place = darts[place][1] as usize & MASK;
+                    place = darts[place][1] as usize & (D - 1);
                     if place == start {
                         break;
                     }
@@ -120,7 +119,7 @@ impl Cell {
     }
 
     /// Rings numbered by first use.
-    fn number(&mut self, darts: &[Record; MAX_DARTS]) {
+    fn number<const D: usize>(&mut self, darts: &[Record; D]) {
         self.vertex[..self.count].fill(NONE);
         self.vertices = 0;
         for index in 0..self.count {
@@ -142,13 +141,13 @@ impl Cell {
     }
 
     /// Question 13: the darts of each ring lead to different other rings.
-    fn pairs_once(&mut self, darts: &[Record; MAX_DARTS]) -> bool {
+    fn pairs_once<const D: usize>(&mut self, darts: &[Record; D]) -> bool {
         self.stamp[..self.vertices].fill(NONE);
         for vertex in 0..self.vertices {
             let start = usize::from(self.first[vertex]);
             let mut place = start;
             loop {
-                let to = usize::from(self.vertex[usize::from(self.index[darts[place][1] as usize & MASK])]);
+                let to = usize::from(self.vertex[usize::from(self.index[darts[place][1] as usize & (D - 1)])]);
                 if to == vertex || self.stamp[to] == vertex as u16 {
                     return false;
                 }
@@ -169,13 +168,13 @@ impl Default for Cell {
     }
 }
 
-fn next_in_ring(darts: &[Record; MAX_DARTS], place: usize) -> usize {
-    darts[darts[place][2] as usize & MASK][1] as usize & MASK
+fn next_in_ring<const D: usize>(darts: &[Record; D], place: usize) -> usize {
+    darts[darts[place][2] as usize & (D - 1)][1] as usize & (D - 1)
 }
 
-/// Questions 11 to 14 of the volume of a place: 0, or the number of the first no.
-pub fn leave(header: &Record, darts: &[Record; MAX_DARTS], place: usize, cell: &mut Cell) -> u32 {
-    if !cell.walk(darts, place) {
+/// Questions 11 to 14 of the volume of a place, 11 for at most so many darts: 0, or the number of the first no.
+pub fn leave<const D: usize>(header: &Record, darts: &[Record; D], place: usize, most: usize, cell: &mut Cell) -> u32 {
+    if !cell.walk(darts, place, most) {
         return 11;
     }
     cell.arrange(darts);
@@ -183,7 +182,7 @@ pub fn leave(header: &Record, darts: &[Record; MAX_DARTS], place: usize, cell: &
         if face.kind == 1 {
             let dart = &darts[usize::from(cell.order[usize::from(face.start)])];
             // A sewn face leads back as a whole or not at all.
-            if cell.holds(dart[4] as usize & MASK) {
+            if cell.holds(dart[4] as usize & (D - 1)) {
                 return 12;
             }
         }
@@ -199,20 +198,20 @@ pub fn leave(header: &Record, darts: &[Record; MAX_DARTS], place: usize, cell: &
 }
 
 /// Questions 9 to 14 on a sound image.
-pub fn departure(words: &[u64], to: u64, serial: u64, cell: &mut Cell) -> u32 {
-    let Some((header, darts)) = records(words) else { return 2 };
+pub fn departure<const D: usize>(words: &[u64], to: u64, serial: u64, cell: &mut Cell) -> u32 {
+    let Some((header, darts)) = records::<D>(words) else { return 2 };
     if to > 15 || to == header[0] {
         return 9;
     }
     match darts[..header[2] as usize].binary_search_by_key(&serial, |dart| dart[0]) {
-        Ok(place) => leave(header, darts, place, cell),
+        Ok(place) => leave(header, darts, place, most_of_a_cell(D), cell),
         Err(_) => 10,
     }
 }
 
 /// Labels the faces left behind, takes the volume out, closes the gaps.
-pub fn remove(words: &mut [u64], to: u64, cell: &mut Cell) {
-    let Some((header, darts)) = records_mut(words) else { return };
+pub fn remove<const D: usize>(words: &mut [u64], to: u64, cell: &mut Cell) {
+    let Some((header, darts)) = records_mut::<D>(words) else { return };
     let (number, counter, count) = (header[0], header[1], header[2] as usize);
     let mut fresh = 0;
     for face in &cell.faces[..cell.face_count] {
@@ -220,7 +219,7 @@ pub fn remove(words: &mut [u64], to: u64, cell: &mut Cell) {
             let start = usize::from(face.start);
             let base = ((number << 32) | (counter + fresh)) << 12;
             for position in 0..usize::from(face.size) {
-                let left = darts[usize::from(cell.order[start + position])][4] as usize & MASK;
+                let left = darts[usize::from(cell.order[start + position])][4] as usize & (D - 1);
                 darts[left][3] = 2 + 4 * to;
                 darts[left][4] = base + position as u64;
             }
@@ -245,12 +244,12 @@ pub fn remove(words: &mut [u64], to: u64, cell: &mut Cell) {
                 continue;
             }
             let mut dart = darts[place];
-            dart[1] = u64::from(cell.map[dart[1] as usize & MASK]);
-            dart[2] = u64::from(cell.map[dart[2] as usize & MASK]);
+            dart[1] = u64::from(cell.map[dart[1] as usize & (D - 1)]);
+            dart[2] = u64::from(cell.map[dart[2] as usize & (D - 1)]);
             if dart[3] == 1 {
-                dart[4] = u64::from(cell.map[dart[4] as usize & MASK]);
+                dart[4] = u64::from(cell.map[dart[4] as usize & (D - 1)]);
             }
-            darts[usize::from(cell.map[place]) & MASK] = dart;
+            darts[usize::from(cell.map[place]) & (D - 1)] = dart;
         }
     }
     darts[count - cell.count..count].as_flattened_mut().fill(0);

@@ -3,10 +3,9 @@
 use super::inbox::Cursor;
 use super::outbox::Out;
 use super::sound::{is_sound, records, records_mut, Record, Work};
-use crate::image::WORDS;
+use crate::image::{RECORD, WORDS};
 use crate::value::MAX_DARTS;
 
-const MASK: usize = MAX_DARTS - 1;
 const EXPONENT: u64 = 0x7ff0_0000_0000_0000;
 const SLOTS: usize = 2 * MAX_DARTS;
 
@@ -62,13 +61,18 @@ impl Files {
         Files { image: [0; WORDS], count: 0, places }
     }
 
+    /// The image for D darts.
+    fn image<const D: usize>(&self) -> &[u64] {
+        &self.image[..RECORD + RECORD * D]
+    }
+
     /// Question 3: the image, with serials where places belong.
-    fn read(&mut self, bytes: &[u8]) -> Option<()> {
+    fn read<const D: usize>(&mut self, bytes: &[u8]) -> Option<()> {
         let mut cursor = Cursor { bytes, at: 0 };
         let number = cursor.at_most(15)?;
         let counter = cursor.number()?;
-        let count = cursor.at_most(MAX_DARTS as u64)?;
-        let (header, darts) = records_mut(&mut self.image)?;
+        let count = cursor.at_most(D as u64)?;
+        let (header, darts) = records_mut::<MAX_DARTS>(&mut self.image)?;
         *header = [number, counter, count, 0, 0, 0, 0, 0];
         // What an earlier file left past the last dart.
         let last = std::mem::replace(&mut self.count, count as usize);
@@ -97,7 +101,7 @@ impl Files {
     /// Serials become places; one that is not held becomes the place past the last dart.
     fn link(&mut self) {
         let Files { image, count, places } = self;
-        let Some((_, darts)) = records_mut(image) else { return };
+        let Some((_, darts)) = records_mut::<MAX_DARTS>(image) else { return };
         let darts = &mut darts[..*count];
         places.fill(darts);
         let place = |serial: u64| places.find(serial).unwrap_or(*count as u64);
@@ -120,7 +124,7 @@ fn first_no(header: &Record, darts: &[Record]) -> u32 {
     }
     let mut reached = [false; MAX_DARTS];
     let right = darts.iter().zip(0..).all(|(dart, place)| {
-        let new = dart[1] < count && !std::mem::replace(&mut reached[dart[1] as usize & MASK], true);
+        let new = dart[1] < count && !std::mem::replace(&mut reached[dart[1] as usize & (MAX_DARTS - 1)], true);
         new && dart[2] != place && at(dart[2]).is_some_and(|across| across[2] == place)
     });
     if !right {
@@ -162,27 +166,27 @@ pub fn empty(number: u64, block: &mut [u64]) -> u32 {
     0
 }
 
-pub fn read(bytes: &[u8], block: &mut [u64], work: &mut Work, files: &mut Files) -> u32 {
-    if files.read(bytes).is_none() {
+pub fn read<const D: usize>(bytes: &[u8], block: &mut [u64], work: &mut Work, files: &mut Files) -> u32 {
+    if files.read::<D>(bytes).is_none() {
         return 3;
     }
     files.link();
-    if is_sound(&files.image, work) {
-        block.copy_from_slice(&files.image);
+    if is_sound::<D>(files.image::<D>(), work) {
+        block.copy_from_slice(files.image::<D>());
         return 0;
     }
-    match records(&files.image) {
+    match records::<D>(files.image::<D>()) {
         Some((header, darts)) => first_no(header, &darts[..files.count]),
         None => 1,
     }
 }
 
 /// The file of a sound block, then question 15.
-pub fn save(words: &[u64], out: &mut Out, room: &mut [u8], written: &mut u64) -> u32 {
-    let Some((header, darts)) = records(words) else { return 2 };
+pub fn save<const D: usize>(words: &[u64], out: &mut Out, room: &mut [u8], written: &mut u64) -> u32 {
+    let Some((header, darts)) = records::<D>(words) else { return 2 };
     out.at = 0;
     header[..3].iter().for_each(|word| out.number(*word));
-    let serial = |place: u64| darts[place as usize & MASK][0];
+    let serial = |place: u64| darts[place as usize & (D - 1)][0];
     for dart in &darts[..header[2] as usize] {
         let [own, next, opposite, kind, link, x, y, z] = *dart;
         out.number(own);

@@ -1,9 +1,8 @@
 //! Reading messages: a transfer joins a block, an update renames the block behind some faces.
 
-use super::sound::{records, records_mut, Record, Work};
+use super::sound::{most_of_a_cell, records, records_mut, Record, Work};
 use crate::value::{MAX_CELL, MAX_DARTS};
 
-const MASK: usize = MAX_DARTS - 1;
 const EXPONENT: u64 = 0x7ff0_0000_0000_0000;
 const PAIRS: usize = 4 * MAX_CELL;
 
@@ -386,7 +385,7 @@ impl Inbox {
     }
 
     /// Question 20; leaves the kind word and link of each arriving dart, links of sewn ones as held places.
-    fn parts(&mut self, bytes: &[u8], header: &Record, darts: &[Record; MAX_DARTS], work: &mut Work) -> bool {
+    fn parts<const D: usize>(&mut self, bytes: &[u8], header: &Record, darts: &[Record; D], work: &mut Work) -> bool {
         let (number, counter) = (header[0], header[1]);
         let count = self.darts;
         if self.part2.count > MAX_CELL || self.part3.count > MAX_CELL || self.part4.count > MAX_CELL {
@@ -421,14 +420,14 @@ impl Inbox {
             }
             let mut partner = held;
             for index in start..start + size {
-                let [.., x, y, z] = darts[darts[partner][1] as usize & MASK];
+                let [.., x, y, z] = darts[darts[partner][1] as usize & (D - 1)];
                 if self.point(bytes, index) != [x, y, z] {
                     return false;
                 }
                 used[partner >> 6] |= 1 << (partner & 63);
                 self.kind[index] = 1;
                 self.link[index] = partner as u64;
-                partner = usize::from(work.previous[partner]) & MASK;
+                partner = usize::from(work.previous[partner]) & (D - 1);
                 // Equal sizes: round exactly once.
                 if (partner == held) != (index + 1 == start + size) {
                     return false;
@@ -469,8 +468,8 @@ impl Inbox {
     }
 
     /// Opens gaps for the arriving darts and puts them in.
-    fn join(&mut self, bytes: &[u8], words: &mut [u64]) {
-        let Some((header, darts)) = records_mut(words) else { return };
+    fn join<const D: usize>(&mut self, bytes: &[u8], words: &mut [u64]) {
+        let Some((header, darts)) = records_mut::<D>(words) else { return };
         let (held, count) = (header[2] as usize, self.darts);
         header[2] = (held + count) as u64;
         for (rank, key) in self.sorted[..count].iter().enumerate() {
@@ -488,21 +487,21 @@ impl Inbox {
             // Darts only move up, so from the top a record is read before anything is written over it.
             for place in (0..held).rev() {
                 let mut dart = darts[place];
-                dart[1] = u64::from(self.map[dart[1] as usize & MASK]);
-                dart[2] = u64::from(self.map[dart[2] as usize & MASK]);
+                dart[1] = u64::from(self.map[dart[1] as usize & (D - 1)]);
+                dart[2] = u64::from(self.map[dart[2] as usize & (D - 1)]);
                 if dart[3] == 1 {
-                    dart[4] = u64::from(self.map[dart[4] as usize & MASK]);
+                    dart[4] = u64::from(self.map[dart[4] as usize & (D - 1)]);
                 }
-                darts[usize::from(self.map[place]) & MASK] = dart;
+                darts[usize::from(self.map[place]) & (D - 1)] = dart;
             }
         }
         for index in 0..count {
-            let place = usize::from(self.place[index]) & MASK;
+            let place = usize::from(self.place[index]) & (D - 1);
             let next = u64::from(self.place[self.next(index)]);
             let opposite = u64::from(self.place[usize::from(self.opposite[index])]);
             let (kind, mut link) = (self.kind[index], self.link[index]);
             if kind == 1 {
-                let partner = usize::from(self.map[link as usize & MASK]) & MASK;
+                let partner = usize::from(self.map[link as usize & (D - 1)]) & (D - 1);
                 darts[partner][3] = 1;
                 darts[partner][4] = place as u64;
                 link = partner as u64;
@@ -519,30 +518,32 @@ impl Default for Inbox {
     }
 }
 
-/// Questions 16 to 21 on a sound image, then the volume joins the block.
-pub fn receive(words: &mut [u64], bytes: &[u8], work: &mut Work, inbox: &mut Inbox) -> u32 {
-    let Some((header, darts)) = records(words) else { return 2 };
+/// Questions 16 to 21 on a sound image, 29 among them, then the volume joins the block.
+pub fn receive<const D: usize>(words: &mut [u64], bytes: &[u8], work: &mut Work, inbox: &mut Inbox) -> u32 {
+    let Some((header, darts)) = records::<D>(words) else { return 2 };
     let Some((kind, _)) = inbox.read(bytes) else { return 16 };
     let held = header[2] as usize;
     if kind != 1 || inbox.to != header[0] || inbox.from == header[0] {
         17
+    } else if inbox.darts > most_of_a_cell(D) {
+        29
     } else if !inbox.coordinates_and_serials(bytes, &darts[..held]) {
         18
     } else if !inbox.one_volume() {
         19
     } else if !inbox.parts(bytes, header, darts, work) {
         20
-    } else if held + inbox.darts > MAX_DARTS {
+    } else if held + inbox.darts > D {
         21
     } else {
-        inbox.join(bytes, words);
+        inbox.join::<D>(bytes, words);
         0
     }
 }
 
 /// Questions 16, 17 and 22 on a sound image, then the new block on the listed faces.
-pub fn redirect(words: &mut [u64], bytes: &[u8], work: &Work, inbox: &mut Inbox) -> u32 {
-    let Some((header, darts)) = records_mut(words) else { return 2 };
+pub fn redirect<const D: usize>(words: &mut [u64], bytes: &[u8], work: &Work, inbox: &mut Inbox) -> u32 {
+    let Some((header, darts)) = records_mut::<D>(words) else { return 2 };
     let Some((kind, labels_at)) = inbox.read(bytes) else { return 16 };
     if kind != 2 || inbox.to != header[0] || inbox.from == header[0] {
         return 17;
@@ -564,7 +565,7 @@ pub fn redirect(words: &mut [u64], bytes: &[u8], work: &Work, inbox: &mut Inbox)
         let mut place = start;
         loop {
             used[place >> 6] |= 1 << (place & 63);
-            place = darts[place][1] as usize & MASK;
+            place = darts[place][1] as usize & (D - 1);
             if darts[place][4] < least {
                 return 22;
             }
@@ -580,7 +581,7 @@ pub fn redirect(words: &mut [u64], bytes: &[u8], work: &Work, inbox: &mut Inbox)
         let mut place = start;
         loop {
             darts[place][3] = 2 + 4 * inbox.new;
-            place = darts[place][1] as usize & MASK;
+            place = darts[place][1] as usize & (D - 1);
             if place == start {
                 break;
             }

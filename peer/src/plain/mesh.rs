@@ -5,7 +5,7 @@ use super::sound::{is_sound, records, Record, Work};
 use crate::balance::Oracle;
 use crate::image::{SCRATCH, WORDS};
 use crate::lent::OracleNumbers;
-use crate::value::{MAX_BLOCKS, MAX_DARTS};
+use crate::value::{Viewers, MAX_BLOCKS, MAX_DARTS};
 
 const MASK: usize = MAX_DARTS - 1;
 const NONE: u32 = u32::MAX;
@@ -115,7 +115,13 @@ impl Tables {
 }
 
 /// Questions 1, 2 and 23 to 27.
-fn views<'a>(mesh: &'a [u64], scratch: &[u64], work: &mut Work, tables: &mut Tables) -> Result<Vec<View<'a>>, u32> {
+fn views<'a>(
+    mesh: &'a [u64],
+    viewers: Viewers,
+    scratch: &[u64],
+    work: &mut Work,
+    tables: &mut Tables,
+) -> Result<Vec<View<'a>>, u32> {
     if !mesh.len().is_multiple_of(WORDS)
         || scratch.len() != SCRATCH
         || scratch.iter().fold(0, |all, word| all | word) != 0
@@ -127,7 +133,7 @@ fn views<'a>(mesh: &'a [u64], scratch: &[u64], work: &mut Work, tables: &mut Tab
     tables.clear(darts);
     let mut views = Vec::with_capacity(MAX_BLOCKS);
     for (block, words) in mesh.chunks_exact(WORDS).enumerate() {
-        if !is_sound(words, work) {
+        if !is_sound::<MAX_DARTS>(words, work) || words[2] > viewers.darts(words[0] as usize) as u64 {
             return Err(2);
         }
         let (header, darts) = records(words).ok_or(2u32)?;
@@ -148,8 +154,8 @@ fn views<'a>(mesh: &'a [u64], scratch: &[u64], work: &mut Work, tables: &mut Tab
     Ok(views)
 }
 
-pub fn check(mesh: &[u64], scratch: &[u64], work: &mut Work, tables: &mut Tables) -> u32 {
-    match views(mesh, scratch, work, tables) {
+pub fn check(mesh: &[u64], viewers: Viewers, scratch: &[u64], work: &mut Work, tables: &mut Tables) -> u32 {
+    match views(mesh, viewers, scratch, work, tables) {
         Ok(_) => 0,
         Err(number) => number,
     }
@@ -202,28 +208,34 @@ fn picked(view: &View, oracle: &Oracle) -> Vec<Picked> {
     found
 }
 
+/// Room for the tables of a next move.
+pub struct Desk<'a> {
+    pub work: &'a mut Work,
+    pub tables: &'a mut Tables,
+    pub cell: &'a mut Cell,
+}
+
 pub fn next_move(
     mesh: &[u64],
+    viewers: Viewers,
     oracle: &OracleNumbers,
     scratch: &[u64],
     answer: &mut [u64],
-    work: &mut Work,
-    tables: &mut Tables,
-    cell: &mut Cell,
+    desk: Desk,
 ) -> u32 {
-    let views = match views(mesh, scratch, work, tables) {
+    let views = match views(mesh, viewers, scratch, desk.work, desk.tables) {
         Ok(views) => views,
         Err(number) => return number,
     };
     let Some(oracle) = oracle.oracle().filter(Oracle::is_right) else { return 28 };
     let picked: Vec<Vec<Picked>> = views.iter().map(|view| picked(view, &oracle)).collect();
-    answer[..4].copy_from_slice(&choose(&views, &picked, cell));
+    answer[..4].copy_from_slice(&choose(&views, viewers, &picked, desk.cell));
     tell(&picked, &mut answer[4..]);
     0
 }
 
 /// Kind, donor, recipient and serial of the next move.
-fn choose(views: &[View], picked: &[Vec<Picked>], cell: &mut Cell) -> [u64; 4] {
+fn choose(views: &[View], viewers: Viewers, picked: &[Vec<Picked>], cell: &mut Cell) -> [u64; 4] {
     let least = picked.iter().map(Vec::len).min().unwrap_or(0);
     let mut kind = 0;
     for (donor, volumes) in picked.iter().enumerate().filter(|(_, volumes)| volumes.len() >= least + 2) {
@@ -231,13 +243,15 @@ fn choose(views: &[View], picked: &[Vec<Picked>], cell: &mut Cell) -> [u64; 4] {
         let view = &views[donor];
         let mut left: Vec<&Picked> = volumes.iter().collect();
         for recipient in (0..views.len()).filter(|recipient| picked[*recipient].len() + 2 <= volumes.len()) {
-            let room = MAX_DARTS - views[recipient].count();
+            let most = viewers.cell(donor, recipient);
+            // Questions 11 and 21.
+            let room = most.min(viewers.darts(recipient) - views[recipient].count());
             for volume in &left {
-                if volume.size <= room && leave(view.header, view.darts, volume.place, cell) == 0 {
+                if volume.size <= room && leave(view.header, view.darts, volume.place, most, cell) == 0 {
                     return [2, donor as u64, recipient as u64, view.darts[volume.place][0]];
                 }
             }
-            // Questions 11 to 14 do not depend on the recipient: what has room here and stays leaves for no other.
+            // Questions 12 to 14 do not depend on the recipient: what has room here and stays leaves for no other.
             left.retain(|volume| volume.size > room);
         }
     }

@@ -65,10 +65,17 @@ impl Out {
 }
 
 /// The transfer and the updates of a volume that may leave, then question 15.
-pub fn send(words: &[u64], to: u64, cell: &Cell, out: &mut Out, outbox: &mut [u8], written: &mut u64) -> u32 {
-    let Some((header, darts)) = records(words) else { return 2 };
+pub fn send<const D: usize>(
+    words: &[u64],
+    to: u64,
+    cell: &Cell,
+    out: &mut Out,
+    outbox: &mut [u8],
+    written: &mut u64,
+) -> u32 {
+    let Some((header, darts)) = records::<D>(words) else { return 2 };
     let (from, counter) = (header[0], header[1]);
-    let dart = |index: usize| &darts[usize::from(cell.order[index]) & (MAX_DARTS - 1)];
+    let dart = |index: usize| &darts[usize::from(cell.order[index]) & (D - 1)];
     let faces = &cell.faces[..cell.face_count];
     let to_kind = 2 + 4 * to;
     out.at = 0;

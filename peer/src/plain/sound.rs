@@ -1,25 +1,32 @@
 //! Question 2 in one pass over the records, then a hash table of the labels.
 
 use crate::image::RECORD;
-use crate::value::{MAX_CELL, MAX_DARTS};
+use crate::value::{MAX_CELL, MAX_DARTS, VIEWER_CELL, VIEWER_DARTS};
 
 /// A header, or a dart: serial, next, opposite, kind word, link, x, y, z.
 pub type Record = [u64; RECORD];
 
 const EXPONENT: u64 = 0x7ff0_0000_0000_0000;
-/// Places are masked, so that no index is checked twice.
-const MASK: usize = MAX_DARTS - 1;
 const SLOTS: usize = 2 * MAX_DARTS;
 
-/// The header and the darts of memory of the right size.
-pub fn records(words: &[u64]) -> Option<(&Record, &[Record; MAX_DARTS])> {
+/// The most darts of a volume that moves, by those of a block: the rack's or a viewer's.
+pub const fn most_of_a_cell(darts: usize) -> usize {
+    if darts == VIEWER_DARTS {
+        VIEWER_CELL
+    } else {
+        MAX_CELL
+    }
+}
+
+/// The header and the darts of memory of the right size, for D darts. Places are masked by D − 1, so that no index is checked twice.
+pub fn records<const D: usize>(words: &[u64]) -> Option<(&Record, &[Record; D])> {
     let (records, _) = words.as_chunks::<RECORD>();
     let (header, darts) = records.split_first()?;
     Some((header, darts.try_into().ok()?))
 }
 
 /// The same, to be written.
-pub fn records_mut(words: &mut [u64]) -> Option<(&mut Record, &mut [Record; MAX_DARTS])> {
+pub fn records_mut<const D: usize>(words: &mut [u64]) -> Option<(&mut Record, &mut [Record; D])> {
     let (records, _) = words.as_chunks_mut::<RECORD>();
     let (header, darts) = records.split_first_mut()?;
     Some((header, darts.try_into().ok()?))
@@ -106,10 +113,11 @@ fn same_point(a: &Record, b: &Record) -> bool {
 }
 
 /// Is this memory a sound block's image?
-pub fn is_sound(words: &[u64], work: &mut Work) -> bool {
-    let Some((header, darts)) = records(words) else { return false };
+pub fn is_sound<const D: usize>(words: &[u64], work: &mut Work) -> bool {
+    let Some((header, darts)) = records::<D>(words) else { return false };
+    let mask = D - 1;
     let [number, counter, count, rest @ ..] = *header;
-    if number > 15 || counter >> 32 != 0 || count > MAX_DARTS as u64 || rest != [0; 5] {
+    if number > 15 || counter >> 32 != 0 || count > D as u64 || rest != [0; 5] {
         return false;
     }
     let count = count as usize;
@@ -117,16 +125,16 @@ pub fn is_sound(words: &[u64], work: &mut Work) -> bool {
         return false;
     }
     // Bytes, not bits: neighbours would wait for each other's word.
-    let mut reached = [false; MAX_DARTS];
+    let mut reached = [false; D];
     let mut last = 0;
     let mut critical = 0;
     // Masked places may lead astray in a wrong block, but then some dart's own test fails.
     for (place, dart) in darts[..count].iter().enumerate() {
         let [serial, next, opposite, kind, link, x, y, z] = *dart;
-        let after = &darts[next as usize & MASK];
-        let across = &darts[opposite as usize & MASK];
-        let seen = &mut reached[next as usize & MASK];
-        let there = &darts[across[1] as usize & MASK];
+        let after = &darts[next as usize & mask];
+        let across = &darts[opposite as usize & mask];
+        let seen = &mut reached[next as usize & mask];
+        let there = &darts[across[1] as usize & mask];
         // One test of many: nothing here is worth a branch of its own.
         let wrong = (serial <= last)
             | (serial >> 32 != 0)
@@ -145,19 +153,19 @@ pub fn is_sound(words: &[u64], work: &mut Work) -> bool {
         }
         *seen = true;
         last = serial;
-        work.previous[next as usize & MASK] = place as u16;
+        work.previous[next as usize & mask] = place as u16;
         if kind == 0 {
             if link != 0 {
                 return false;
             }
         } else if kind == 1 {
-            let partner = &darts[link as usize & MASK];
+            let partner = &darts[link as usize & mask];
             let wrong = link >= count as u64
                 || link == place as u64
                 || partner[3] != 1
                 || partner[4] != place as u64
-                || darts[after[4] as usize & MASK][1] != link
-                || !same_point(dart, &darts[partner[1] as usize & MASK]);
+                || darts[after[4] as usize & mask][1] != link
+                || !same_point(dart, &darts[partner[1] as usize & mask]);
             if wrong {
                 return false;
             }
@@ -173,6 +181,6 @@ pub fn is_sound(words: &[u64], work: &mut Work) -> bool {
     }
     work.critical_count = critical;
     // Room for the labels of an arriving cell too.
-    work.labels.clear(critical + MAX_CELL);
-    work.critical[..critical].iter().all(|place| work.labels.add(darts[usize::from(*place) & MASK][4], *place))
+    work.labels.clear(critical + most_of_a_cell(D));
+    work.critical[..critical].iter().all(|place| work.labels.add(darts[usize::from(*place) & mask][4], *place))
 }

@@ -3,6 +3,7 @@
 use peer::cases::{Call, Case};
 use peer::image::ANSWER;
 use peer::lent::OracleNumbers;
+use peer::value::Viewers;
 
 pub struct Reader<'a> {
     pub bytes: &'a [u8],
@@ -71,24 +72,25 @@ pub fn parse(call: Call, bytes: &[u8]) -> (Case, u32, Case) {
     let mut r = Reader { bytes };
     let answer = r.u32() as u32;
     let after_writing = |length: u64| if answer == 0 { length } else { UNWRITTEN };
-    let (before, after) = match call {
+    let site = call.site();
+    let (before, after) = match call.on_the_rack() {
         Call::Empty => {
             let number = r.u64();
             let (block, end) = r.changed();
-            (Case::Empty { number, block }, Case::Empty { number, block: end })
+            (Case::Empty { site, number, block }, Case::Empty { site, number, block: end })
         }
         Call::ReadFile => {
             let file = r.bytes();
             let (block, end) = r.changed();
-            (Case::ReadFile { file: file.clone(), block }, Case::ReadFile { file, block: end })
+            (Case::ReadFile { site, file: file.clone(), block }, Case::ReadFile { site, file, block: end })
         }
         Call::SaveFile => {
             let block = r.memory();
             let (out, end, length) = r.room();
             let written = after_writing(length);
             (
-                Case::SaveFile { block: block.clone(), out, written: UNWRITTEN },
-                Case::SaveFile { block, out: end, written },
+                Case::SaveFile { site, block: block.clone(), out, written: UNWRITTEN },
+                Case::SaveFile { site, block, out: end, written },
             )
         }
         Call::Send => {
@@ -97,30 +99,32 @@ pub fn parse(call: Call, bytes: &[u8]) -> (Case, u32, Case) {
             let (outbox, end, length) = r.room();
             let written = after_writing(length);
             (
-                Case::Send { block: block.clone(), to, serial, outbox, written: UNWRITTEN },
-                Case::Send { block, to, serial, outbox: end, written },
+                Case::Send { site, block: block.clone(), to, serial, outbox, written: UNWRITTEN },
+                Case::Send { site, block, to, serial, outbox: end, written },
             )
         }
         Call::Receive => {
             let message = r.bytes();
             let (block, end) = r.changed();
-            (Case::Receive { block, message: message.clone() }, Case::Receive { block: end, message })
+            (Case::Receive { site, block, message: message.clone() }, Case::Receive { site, block: end, message })
         }
         Call::Redirect => {
             let message = r.bytes();
             let (block, end) = r.changed();
-            (Case::Redirect { block, message: message.clone() }, Case::Redirect { block: end, message })
+            (Case::Redirect { site, block, message: message.clone() }, Case::Redirect { site, block: end, message })
         }
         Call::Release => {
             let (to, serial) = (r.u64(), r.u64());
             let (block, end) = r.changed();
-            (Case::Release { block, to, serial }, Case::Release { block: end, to, serial })
+            (Case::Release { site, block, to, serial }, Case::Release { site, block: end, to, serial })
         }
         Call::CheckMesh => {
-            let case = Case::CheckMesh { mesh: r.memory(), scratch: r.memory() };
+            let viewers = Viewers(r.u32() as u32);
+            let case = Case::CheckMesh { viewers, mesh: r.memory(), scratch: r.memory() };
             (case.clone(), case)
         }
         Call::NextMove => {
+            let viewers = Viewers(r.u32() as u32);
             let (oracle, axis) = (r.u32() as u32, r.u32() as u32);
             let floats = [0; 6].map(|_| r.u64());
             let oracle = OracleNumbers { oracle, axis, floats };
@@ -130,10 +134,11 @@ pub fn parse(call: Call, bytes: &[u8]) -> (Case, u32, Case) {
             let stale = vec![UNWRITTEN; room];
             let end = if answer == 0 { words } else { stale.clone() };
             (
-                Case::NextMove { mesh: mesh.clone(), oracle, scratch: scratch.clone(), answer: stale },
-                Case::NextMove { mesh, oracle, scratch, answer: end },
+                Case::NextMove { mesh: mesh.clone(), viewers, oracle, scratch: scratch.clone(), answer: stale },
+                Case::NextMove { mesh, viewers, oracle, scratch, answer: end },
             )
         }
+        viewer => panic!("{viewer:?} is not the rack's"),
     };
     assert!(r.bytes.is_empty());
     (before, answer, after)

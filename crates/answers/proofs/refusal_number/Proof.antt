@@ -89,6 +89,9 @@ enum-told-27 c = search needs
 enum-told-28 : tie.Need-enum-told-28
 enum-told-28 c = search needs
 
+enum-told-29 : tie.Need-enum-told-29
+enum-told-29 c = search needs
+
 returns : tie.Need-returns
 returns c =
     sym (ap question (c .enum-told .given .1))
@@ -201,6 +204,10 @@ returns-28 : tie.Need-returns-28
 returns-28 c =
     sym (ap question (c .enum-told28 .given .1))
 
+returns-29 : tie.Need-returns-29
+returns-29 c =
+    sym (ap question (c .enum-told29 .given .1))
+
 pub refusal-number-spec : {M : Type 1} → statement M
 refusal-number-spec =
     tie.close
@@ -233,6 +240,7 @@ refusal-number-spec =
     enum-told-26
     enum-told-27
     enum-told-28
+    enum-told-29
     returns
     returns-2
     returns-3
@@ -260,4 +268,5 @@ refusal-number-spec =
     returns-25
     returns-26
     returns-27
-    returns-28)
+    returns-28
+    returns-29)

@@ -15,11 +15,11 @@ use Rattle.balance.proofs.first_move.Statement.{statement}
 use Rattle.balance.proofs.first_move.Tie as tie
 
 abbrev Inv-loop : tie.InvT-loop
-Inv-loop mesh o low sizes₀ counts k d₀ sizes d =
-    (length sizes ≡ length sizes₀) × Searching (λ b. may-give (picked-count (oracle-of o) mesh b) low) (moves-from (oracle-of o) mesh) (block-count mesh) d
+Inv-loop mesh viewers o low sizes₀ counts k d₀ sizes d =
+    (length sizes ≡ length sizes₀) × Searching (λ b. may-give (picked-count (oracle-of o) mesh b) low) (moves-from viewers (oracle-of o) mesh) (block-count mesh) d
 
 abbrev μ-loop : tie.MeasureT-loop
-μ-loop mesh o low sizes₀ counts k d₀ sizes d =
+μ-loop mesh viewers o low sizes₀ counts k d₀ sizes d =
     k - d
 
 loop-holds : tie.Need-loop-holds Inv-loop μ-loop
@@ -54,7 +54,7 @@ loop-again c =
     let gives-ensures = (let p : tie.After-gives Inv-loop μ-loop = search in p .gives .ensures) in (
       loop-inv .0,
       searching-skip (loop-inv .1) loop-test-taken
-          (sym (donor-told (oracle-of o) mesh (start .pre .1) (start .pre .2) loop-d loop-test-taken gives-ensures) ∙ not-true _ (c .if1 .taken)),
+          (sym (donor-told (start .args .viewers) (oracle-of o) mesh (start .pre .1) (start .pre .2) loop-d loop-test-taken gives-ensures) ∙ not-true _ (c .if1 .taken)),
     )
 
 from-donor-requires : tie.Need-from-donor-requires Inv-loop μ-loop
@@ -82,11 +82,11 @@ loop-again-2 c =
     let from-donor-kept = (let p : tie.After-from-donor Inv-loop μ-loop = search in p .from-donor .kept) in
     let start : tie.Start Inv-loop μ-loop = search in
     let loop-d = (let p : tie.At-loop Inv-loop μ-loop = search in p .loop .d) in
-    let none = donor-none (oracle-of (start .args .o)) (start .args .mesh .now) loop-d from-donor-ensures (c .enum-told .given .1) in
+    let none = donor-none (start .args .viewers) (oracle-of (start .args .o)) (start .args .mesh .now) loop-d from-donor-ensures (c .enum-told .given .1) in
     (omega (arith, from-donor-kept, loop-inv .0), searching-none (loop-inv .1) loop-test-taken none)
 
-cast-t18 : tie.Need-cast-t18 Inv-loop μ-loop
-cast-t18 c = omega arith
+cast-t19 : tie.Need-cast-t19 Inv-loop μ-loop
+cast-t19 c = omega arith
 
 same-length : tie.Need-same-length Inv-loop μ-loop
 same-length c =
@@ -106,8 +106,8 @@ returns c =
     let if1-left = (let p : tie.Else1 Inv-loop μ-loop = search in p .if1 .left) in
     let from-donor-ensures = (let p : tie.After-from-donor Inv-loop μ-loop = search in p .from-donor .ensures) in
     let to-given = (let p : tie.After-to Inv-loop μ-loop = search in p .to .given) in
-    donor-found (oracle-of o) mesh (start .pre .1) (start .pre .2) (loop-inv .1) loop-test-taken
-    (sym (donor-told (oracle-of o) mesh (start .pre .1) (start .pre .2) loop-d loop-test-taken gives-ensures) ∙ not-false _ if1-left)
+    donor-found (start .args .viewers) (oracle-of o) mesh (start .pre .1) (start .pre .2) (loop-inv .1) loop-test-taken
+    (sym (donor-told (start .args .viewers) (oracle-of o) mesh (start .pre .1) (start .pre .2) loop-d loop-test-taken gives-ensures) ∙ not-false _ if1-left)
     from-donor-ensures (to-given .1)
 
 same-length-2 : tie.Need-same-length-2 Inv-loop μ-loop
@@ -119,7 +119,7 @@ returns-2 : tie.Need-returns-2 Inv-loop μ-loop
 returns-2 c =
     let start : tie.Start Inv-loop μ-loop = search in
     let loop-inv = (let p : tie.At-loop Inv-loop μ-loop = search in p .loop .inv) in
-    donor-end (oracle-of (start .args .o)) (start .args .mesh .now) (start .pre .1) (start .pre .2) (loop-inv .1) (c .loop-test .left)
+    donor-end (start .args .viewers) (oracle-of (start .args .o)) (start .args .mesh .now) (start .pre .1) (start .pre .2) (loop-inv .1) (c .loop-test .left)
 
 pub first-move-spec : {M : Type 1} → statement M
 first-move-spec =
@@ -139,7 +139,7 @@ first-move-spec =
     enum-told
     loop-less-2
     loop-again-2
-    cast-t18
+    cast-t19
     same-length
     returns
     same-length-2

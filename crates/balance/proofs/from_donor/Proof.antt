@@ -15,11 +15,11 @@ use Rattle.balance.proofs.from_donor.Statement.{statement}
 use Rattle.balance.proofs.from_donor.Tie as tie
 
 abbrev Inv-loop : tie.InvT-loop
-Inv-loop mesh d sizes₀ counts k own r₀ sizes r =
-    (length sizes ≡ length sizes₀) × ((o : Oracle) → CellsCounted o mesh counts → Sizes o (part mesh d) sizes₀ → Giving o mesh d sizes r)
+Inv-loop mesh viewers d sizes₀ counts k own r₀ sizes r =
+    (length sizes ≡ length sizes₀) × ((o : Oracle) → CellsCounted o mesh counts → Sizes o (part mesh d) sizes₀ → Giving viewers o mesh d sizes r)
 
 abbrev μ-loop : tie.MeasureT-loop
-μ-loop mesh d sizes₀ counts k own r₀ sizes r =
+μ-loop mesh viewers d sizes₀ counts k own r₀ sizes r =
     k - r
 
 sizes-at-requires : tie.Need-sizes-at-requires Inv-loop μ-loop
@@ -106,8 +106,8 @@ loop-again-2 c =
           (between-ensures .0) (c .enum-told .given .1) (between-ensures .1),
     )
 
-cast-t24 : tie.Need-cast-t24 Inv-loop μ-loop
-cast-t24 c =
+cast-t25 : tie.Need-cast-t25 Inv-loop μ-loop
+cast-t25 c =
     let start : tie.Start Inv-loop μ-loop = search in
     let loop-test-taken = (let p : tie.In-loop Inv-loop μ-loop = search in p .loop-test .taken) in
     omega (arith, loop-test-taken, start .pre .0 .0 .few)
@@ -172,7 +172,7 @@ from-donor-spec =
     enum-told
     loop-less-2
     loop-again-2
-    cast-t24
+    cast-t25
     same-length
     returns
     same-length-2

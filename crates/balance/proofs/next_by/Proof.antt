@@ -23,7 +23,7 @@ returns c =
     let start : tie.Start = search in
     let least-ensures = (let p : tie.After-least = search in p .least .ensures) in
     let some-gives-ensures = (let p : tie.After-some-gives = search in p .some-gives .ensures) in
-    nobody-gives (oracle-of (start .args .o)) (start .args .mesh .now) (start .pre .1) least-ensures some-gives-ensures (c .if1 .taken)
+    nobody-gives (start .args .viewers) (oracle-of (start .args .o)) (start .args .mesh .now) (start .pre .1) least-ensures some-gives-ensures (c .if1 .taken)
 
 slice-aggregate-first-move : tie.Need-slice-aggregate-first-move
 slice-aggregate-first-move c = search needs
@@ -42,7 +42,7 @@ returns-2 c =
     let some-gives-ensures = (let p : tie.After-some-gives = search in p .some-gives .ensures) in
     let if1-left = (let p : tie.Else1 = search in p .if1 .left) in
     let first-move-ensures = (let p : tie.After-first-move = search in p .first-move .ensures) in
-    first-move-ensures ∙ somebody-gives (oracle-of (start .args .o)) (start .args .mesh .now) (start .pre .1) least-ensures some-gives-ensures if1-left
+    first-move-ensures ∙ somebody-gives (start .args .viewers) (oracle-of (start .args .o)) (start .args .mesh .now) (start .pre .1) least-ensures some-gives-ensures if1-left
 
 pub next-by-spec : {M : Type 1} → statement M
 next-by-spec =

@@ -56,7 +56,7 @@ returns c =
     let next-by = (let p : tie.After-next-by = search in p .next-by) in
     told (next-by .result) _ _ (next-by .ensures) (mean-is o mesh counts-ensures (total-ensures .0))
     (less-mean-ensures ∙ surpluses-are o mesh counts-ensures (total-ensures .0))
-    ∙ model-mesh o mesh
+    ∙ model-mesh (start .args .viewers) o mesh
 
 pub next-of-spec : {M : Type 1} → statement M
 next-of-spec =

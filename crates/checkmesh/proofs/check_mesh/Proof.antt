@@ -15,7 +15,7 @@ returns : tie.Need-returns
 returns c =
     let start : tie.Start = search in
     let mesh-asked-ensures = (let p : tie.After-mesh-asked = search in p .mesh-asked .ensures) in
-    gives-mesh (start .args .mesh .now) (start .args .scratch .now) (mesh-asked-ensures .0) (mesh-asked-ensures .1)
+    gives-mesh (start .args .viewers) (start .args .mesh .now) (start .args .scratch .now) (mesh-asked-ensures .0) (mesh-asked-ensures .1)
 
 pub check-mesh-spec : {M : Type 1} → statement M
 check-mesh-spec =

@@ -6,6 +6,7 @@ use mathlib.Core.List.{List}
 use Prim.Native.Nat.{ℕ}
 use Rattle.model.specs.Calls.{mesh-lent, scratch-entries}
 use Rattle.answers.proofs.Questions.{said-yes}
+use Rattle.mesh.proofs.Among.{parts-hold}
 use Rattle.checkmesh.proofs.Chain.{size-no, image-no, numbers-no, serials-no, labels-no, points-no, makers-no, all-yes}
 use borrow.Author.Needs.{needs}
 use Rattle.checkmesh.proofs.mesh_asked.Statement.{statement}
@@ -21,7 +22,7 @@ returns : tie.Need-returns
 returns c =
     let start : tie.Start = search in
     let mesh-lent-ensures = (let p : tie.After-mesh-lent = search in p .mesh-lent .ensures) in
-    (size-no (start .args .mesh .now) (start .args .scratch .now) mesh-lent-ensures (c .if1 .taken), refl)
+    (size-no (start .args .viewers) (start .args .mesh .now) (start .args .scratch .now) mesh-lent-ensures (c .if1 .taken), refl)
 
 all-sound-requires : tie.Need-all-sound-requires
 all-sound-requires c κs = search needs
@@ -35,7 +36,7 @@ returns-2 c =
     let mesh-lent-ensures = (let p : tie.After-mesh-lent = search in p .mesh-lent .ensures) in
     let if1-left = (let p : tie.Else1 = search in p .if1 .left) in
     let all-sound-ensures = (let p : tie.After-all-sound = search in p .all-sound .ensures) in
-    (image-no (start .args .mesh .now) (start .args .scratch .now) (said-yes mesh-lent-ensures if1-left) all-sound-ensures (c .if2 .taken), refl)
+    (image-no (start .args .viewers) (start .args .mesh .now) (start .args .scratch .now) (said-yes mesh-lent-ensures if1-left) all-sound-ensures (c .if2 .taken), refl)
 
 blocks-right-requires : tie.Need-blocks-right-requires
 blocks-right-requires c κs = search needs
@@ -53,7 +54,7 @@ returns-3 c =
     let all-sound-ensures = (let p : tie.After-all-sound = search in p .all-sound .ensures) in
     let if2-left = (let p : tie.Else2 = search in p .if2 .left) in
     let blocks-right-ensures = (let p : tie.After-blocks-right = search in p .blocks-right .ensures) in
-    (numbers-no mesh scratch (said-yes mesh-lent-ensures if1-left) (said-yes all-sound-ensures if2-left) blocks-right-ensures (c .if3 .taken), refl)
+    (numbers-no (start .args .viewers) mesh scratch (said-yes mesh-lent-ensures if1-left) (said-yes all-sound-ensures if2-left) blocks-right-ensures (c .if3 .taken), refl)
 
 serials-distinct-requires : tie.Need-serials-distinct-requires
 serials-distinct-requires c κs =
@@ -63,7 +64,8 @@ serials-distinct-requires c κs =
     let if2-left = (let p : tie.Else2 = search in p .if2 .left) in
     let blocks-right-ensures = (let p : tie.After-blocks-right = search in p .blocks-right .ensures) in
     let if3-left = (let p : tie.Else3 = search in p .if3 .left) in
-    (said-yes mesh-lent-ensures if1-left, said-yes all-sound-ensures if2-left, said-yes blocks-right-ensures if3-left)
+    let start : tie.Start = search in
+    (said-yes mesh-lent-ensures if1-left, parts-hold _ (start .args .mesh .now) (said-yes all-sound-ensures if2-left), said-yes blocks-right-ensures if3-left)
 
 same-length-4 : tie.Need-same-length-4
 same-length-4 c = search needs
@@ -80,7 +82,7 @@ returns-4 c =
     let blocks-right-ensures = (let p : tie.After-blocks-right = search in p .blocks-right .ensures) in
     let if3-left = (let p : tie.Else3 = search in p .if3 .left) in
     let serials-distinct-ensures = (let p : tie.After-serials-distinct = search in p .serials-distinct .ensures) in (
-      serials-no mesh scratch (said-yes mesh-lent-ensures if1-left) (said-yes all-sound-ensures if2-left)
+      serials-no (start .args .viewers) mesh scratch (said-yes mesh-lent-ensures if1-left) (said-yes all-sound-ensures if2-left)
           (said-yes blocks-right-ensures if3-left) (serials-distinct-ensures .0) (c .if4 .taken),
       serials-distinct-ensures .1,
     )
@@ -98,7 +100,7 @@ paired-requires c κs =
     let serials-distinct-ensures = (let p : tie.After-serials-distinct = search in p .serials-distinct .ensures) in (
       subst (λ (x : List ℕ). mesh-lent scratch-entries mesh x ≡ true) (sym (serials-distinct-ensures .1))
           (said-yes mesh-lent-ensures if1-left),
-      record { images = said-yes all-sound-ensures if2-left; numbered = said-yes blocks-right-ensures if3-left },
+      record { images = parts-hold _ mesh (said-yes all-sound-ensures if2-left); numbered = said-yes blocks-right-ensures if3-left },
     )
 
 enum-told : tie.Need-enum-told
@@ -121,7 +123,7 @@ returns-5 c =
     let serials-distinct-ensures = (let p : tie.After-serials-distinct = search in p .serials-distinct .ensures) in
     let if4-left = (let p : tie.Else4 = search in p .if4 .left) in
     let paired-ensures = (let p : tie.After-paired = search in p .paired .ensures) in (
-      labels-no mesh scratch
+      labels-no (start .args .viewers) mesh scratch
           (record {
             lent = said-yes mesh-lent-ensures if1-left;
             images = said-yes all-sound-ensures if2-left;
@@ -151,7 +153,7 @@ returns-6 c =
     let serials-distinct-ensures = (let p : tie.After-serials-distinct = search in p .serials-distinct .ensures) in
     let if4-left = (let p : tie.Else4 = search in p .if4 .left) in
     let paired-ensures = (let p : tie.After-paired = search in p .paired .ensures) in (
-      points-no mesh scratch
+      points-no (start .args .viewers) mesh scratch
           (record {
             lent = said-yes mesh-lent-ensures if1-left;
             images = said-yes all-sound-ensures if2-left;
@@ -168,7 +170,8 @@ makers-right-requires : tie.Need-makers-right-requires
 makers-right-requires c κs =
     let all-sound-ensures = (let p : tie.After-all-sound = search in p .all-sound .ensures) in
     let if2-left = (let p : tie.Else2 = search in p .if2 .left) in
-    said-yes all-sound-ensures if2-left
+    let start : tie.Start = (let c : tie.After-mesh-lent = search in search) in
+    parts-hold _ (start .args .mesh .now) (said-yes all-sound-ensures if2-left)
 
 same-length-7 : tie.Need-same-length-7
 same-length-7 c = search needs
@@ -189,7 +192,7 @@ returns-7 c =
     let paired-ensures = (let p : tie.After-paired = search in p .paired .ensures) in
     let enum-told3-given = (let p : tie.After-enum-told3 = search in p .enum-told3 .given) in
     let makers-right-ensures = (let p : tie.After-makers-right = search in p .makers-right .ensures) in (
-      makers-no mesh scratch
+      makers-no (start .args .viewers) mesh scratch
           (record {
             lent = said-yes mesh-lent-ensures if1-left;
             images = said-yes all-sound-ensures if2-left;
@@ -218,7 +221,7 @@ returns-8 c =
     let paired-ensures = (let p : tie.After-paired = search in p .paired .ensures) in
     let enum-told3-given = (let p : tie.After-enum-told3 = search in p .enum-told3 .given) in
     let makers-right-ensures = (let p : tie.After-makers-right = search in p .makers-right .ensures) in (
-      all-yes mesh scratch
+      all-yes (start .args .viewers) mesh scratch
           (record {
             lent = said-yes mesh-lent-ensures if1-left;
             images = said-yes all-sound-ensures if2-left;

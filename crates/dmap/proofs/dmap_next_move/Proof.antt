@@ -1,5 +1,5 @@
 -- `dmap::dmap_next_move` meets its contract. Assumes nothing.
-use Rattle.model.specs.Values.{all-rack}
+use Rattle.model.specs.Values.{limits-in}
 use Rattle.model.specs.Calls.{next-move-by-number}
 use Rattle.dmap.specs.CInterface.{point-words}
 use Rattle.dmap.proofs.Through.{not-sized, moved}
@@ -21,7 +21,7 @@ returns c =
     let x1 = start .args .x1 in
     let y1 = start .args .y1 in
     let z1 = start .args .z1 in
-    not-sized answer scratch (next-move-by-number all-rack mesh oracle axis (point-words x0 y0 z0) (point-words x1 y1 z1) scratch) (c .if1 .taken)
+    not-sized answer scratch (next-move-by-number (limits-in (start .args .viewers)) mesh oracle axis (point-words x0 y0 z0) (point-words x1 y1 z1) scratch) (c .if1 .taken)
 
 next-move-by-number-requires : tie.Need-next-move-by-number-requires
 next-move-by-number-requires c κs = search needs

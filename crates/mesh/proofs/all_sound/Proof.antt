@@ -10,16 +10,16 @@ use Rattle.mesh.proofs.all_sound.Statement.{statement}
 use Rattle.mesh.proofs.all_sound.Tie as tie
 
 abbrev Inv-loop : tie.InvT-loop
-Inv-loop mesh k i₀ i =
-    Going (sound-test mesh) k i
+Inv-loop mesh viewers k i₀ i =
+    Going (sound-test viewers mesh) k i
 
 abbrev μ-loop : tie.MeasureT-loop
-μ-loop mesh k i₀ i =
+μ-loop mesh viewers k i₀ i =
     k - i
 
 loop-holds : tie.Need-loop-holds Inv-loop μ-loop
 loop-holds c =
-    going-none (sound-test _) _
+    going-none (sound-test _ _) _
 
 sound-at-requires : tie.Need-sound-at-requires Inv-loop μ-loop
 sound-at-requires c κs = search needs
@@ -29,7 +29,7 @@ returns c =
     let loop-inv = (let p : tie.At-loop Inv-loop μ-loop = search in p .loop .inv) in
     let loop-test-taken = (let p : tie.In-loop Inv-loop μ-loop = search in p .loop-test .taken) in
     let sound-at-ensures = (let p : tie.After-sound-at Inv-loop μ-loop = search in p .sound-at .ensures) in
-    going-no loop-inv loop-test-taken sound-at-ensures (not-true _ (c .if1 .taken)) ∙ sound-is _
+    going-no loop-inv loop-test-taken sound-at-ensures (not-true _ (c .if1 .taken)) ∙ sound-is _ _
 
 add-i : tie.Need-add-i Inv-loop μ-loop
 add-i c = search needs
@@ -47,7 +47,7 @@ loop-again c =
 returns-2 : tie.Need-returns-2 Inv-loop μ-loop
 returns-2 c =
     let loop-inv = (let p : tie.At-loop Inv-loop μ-loop = search in p .loop .inv) in
-    going-end loop-inv (c .loop-test .left) ∙ sound-is _
+    going-end loop-inv (c .loop-test .left) ∙ sound-is _ _
 
 pub all-sound-spec : {M : Type 1} → statement M
 all-sound-spec =

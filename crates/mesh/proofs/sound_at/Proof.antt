@@ -1,6 +1,8 @@
 -- `mesh::sound_at` meets its contract. Assumes nothing.
 use mathlib.Core.Path.{_∙_, ap}
-use Rattle.model.specs.Image.{holds-block}
+use lib.ListN.{length}
+use Rattle.mesh.specs.Parts.{sound-memory}
+use Rattle.mesh.proofs.Gathers.{part-length}
 use borrow.Author.Needs.{needs}
 use Rattle.mesh.proofs.sound_at.Statement.{statement}
 use Rattle.mesh.proofs.sound_at.Tie as tie
@@ -8,13 +10,17 @@ use Rattle.mesh.proofs.sound_at.Tie as tie
 part-of-requires : tie.Need-part-of-requires
 part-of-requires c κs = search needs
 
-is-sound-requires : tie.Need-is-sound-requires
-is-sound-requires c κs = search needs
+sound-among-requires : tie.Need-sound-among-requires
+sound-among-requires c κs =
+    let start : tie.Start = search in
+    let part-of-ensures = (let p : tie.After-part-of = search in p .part-of .ensures) in
+    ap length part-of-ensures ∙ part-length (start .args .mesh .now) (start .args .i) (start .pre)
 
 returns : tie.Need-returns
 returns c =
     let part-of-ensures = (let p : tie.After-part-of = search in p .part-of .ensures) in
-    c .is-sound .ensures ∙ ap holds-block part-of-ensures
+    let start : tie.Start = search in
+    c .sound-among .ensures ∙ ap (sound-memory (start .args .viewers)) part-of-ensures
 
 pub sound-at-spec : {M : Type 1} → statement M
-sound-at-spec = tie.close (tie.spec part-of-requires is-sound-requires returns)
+sound-at-spec = tie.close (tie.spec part-of-requires sound-among-requires returns)

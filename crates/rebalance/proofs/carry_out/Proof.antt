@@ -32,7 +32,7 @@ returns c =
     let recipient = start .args .recipient in
     let serial = start .args .serial in
     let play-ensures = (let p : tie.After-play = search in p .play .ensures) in
-    carried mesh outbox donor recipient serial _ (c .enum-told .given .1) refl play-ensures
+    carried (start .args .viewers) mesh outbox donor recipient serial _ (c .enum-told .given .1) refl play-ensures
 
 same-length-3 : tie.Need-same-length-3
 same-length-3 c = search needs
@@ -49,7 +49,7 @@ returns-2 c =
     let recipient = start .args .recipient in
     let serial = start .args .serial in
     let play-ensures = (let p : tie.After-play = search in p .play .ensures) in
-    carried mesh outbox donor recipient serial _ (c .enum-told2 .given .1) refl play-ensures
+    carried (start .args .viewers) mesh outbox donor recipient serial _ (c .enum-told2 .given .1) refl play-ensures
 
 same-length-5 : tie.Need-same-length-5
 same-length-5 c = search needs
@@ -67,7 +67,7 @@ returns-3 c =
     let serial = start .args .serial in
     let play-ensures = (let p : tie.After-play = search in p .play .ensures) in
     let r-given = (let p : tie.After-r = search in p .r .given) in
-    carried mesh outbox donor recipient serial _ (r-given .1) refl play-ensures
+    carried (start .args .viewers) mesh outbox donor recipient serial _ (r-given .1) refl play-ensures
 
 pub carry-out-spec : {M : Type 1} → statement M
 carry-out-spec =

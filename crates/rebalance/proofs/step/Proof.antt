@@ -37,7 +37,7 @@ returns c =
     let scratch = start .args .scratch .now in
     let outbox = start .args .outbox .now in
     let next-move-ensures = (let p : tie.After-next-move = search in p .next-move .ensures) in
-    answered mesh (oracle-of o) scratch outbox (c .enum-told .given .1) next-move-ensures (stays mesh outbox _)
+    answered (start .args .viewers) mesh (oracle-of o) scratch outbox (c .enum-told .given .1) next-move-ensures (stays (start .args .viewers) mesh outbox _)
 
 same-length-3 : tie.Need-same-length-3
 same-length-3 c = search needs
@@ -53,7 +53,7 @@ returns-2 c =
     let scratch = start .args .scratch .now in
     let outbox = start .args .outbox .now in
     let next-move-ensures = (let p : tie.After-next-move = search in p .next-move .ensures) in
-    answered mesh (oracle-of o) scratch outbox (c .enum-told2 .given .1) next-move-ensures (stays mesh outbox _)
+    answered (start .args .viewers) mesh (oracle-of o) scratch outbox (c .enum-told2 .given .1) next-move-ensures (stays (start .args .viewers) mesh outbox _)
 
 same-length-5 : tie.Need-same-length-5
 same-length-5 c = search needs
@@ -74,7 +74,7 @@ returns-3 c =
     let next-move-ensures = (let p : tie.After-next-move = search in p .next-move .ensures) in
     let next-given = (let p : tie.After-next = search in p .next .given) in
     let carry-out-ensures = (let p : tie.After-carry-out = search in p .carry-out .ensures) in
-    answered mesh (oracle-of o) scratch outbox (next-given .1) next-move-ensures carry-out-ensures
+    answered (start .args .viewers) mesh (oracle-of o) scratch outbox (next-given .1) next-move-ensures carry-out-ensures
 
 same-length-8 : tie.Need-same-length-8
 same-length-8 c = search needs
@@ -91,7 +91,7 @@ returns-4 c =
     let outbox = start .args .outbox .now in
     let next-move-ensures = (let p : tie.After-next-move = search in p .next-move .ensures) in
     let next2-given = (let p : tie.After-next2 = search in p .next2 .given) in
-    answered mesh (oracle-of o) scratch outbox (next2-given .1) next-move-ensures (stays mesh outbox _)
+    answered (start .args .viewers) mesh (oracle-of o) scratch outbox (next2-given .1) next-move-ensures (stays (start .args .viewers) mesh outbox _)
 
 pub step-spec : {M : Type 1} → statement M
 step-spec =

@@ -8,11 +8,11 @@ use Rattle.rebalance_run.proofs.balance.Statement.{statement}
 use Rattle.rebalance_run.proofs.balance.Tie as tie
 
 abbrev Inv-loop : tie.InvT-loop
-Inv-loop mesh₀ o scratch₀ outbox₀ most i₀ mesh scratch outbox i =
+Inv-loop mesh₀ viewers o scratch₀ outbox₀ most i₀ mesh scratch outbox i =
     (length mesh ≡ length mesh₀) × (length scratch ≡ length scratch₀) × (length outbox ≡ length outbox₀) × (i ≤ most)
 
 abbrev μ-loop : tie.MeasureT-loop
-μ-loop mesh₀ o scratch₀ outbox₀ most i₀ mesh scratch outbox i =
+μ-loop mesh₀ viewers o scratch₀ outbox₀ most i₀ mesh scratch outbox i =
     most - i
 
 most-moves-requires : tie.Need-most-moves-requires Inv-loop μ-loop

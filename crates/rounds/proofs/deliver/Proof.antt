@@ -66,7 +66,7 @@ returns c =
     let receive-at-result = (let p : tie.After-receive-at = search in p .receive-at .result) in
     let enum-told-given = (let p : tie.After-enum-told = search in p .enum-told .given) in
     let finish-ensures = (let p : tie.After-finish = search in p .finish .ensures) in
-    deliver-finished mesh from to serial sent first-message-result first-message-ensures receive-at-result receive-at-ensures
+    deliver-finished (start .args .viewers) mesh from to serial sent first-message-result first-message-ensures receive-at-result receive-at-ensures
     (enum-told-given .1) finish-ensures (c .if1 .taken)
 
 same-length-2 : tie.Need-same-length-2
@@ -85,7 +85,7 @@ returns-2 c =
     let receive-at-ensures = (let p : tie.After-receive-at = search in p .receive-at .ensures) in
     let receive-at-result = (let p : tie.After-receive-at = search in p .receive-at .result) in
     let r-given = (let p : tie.After-r = search in p .r .given) in
-    deliver-refused mesh from to serial sent first-message-result first-message-ensures receive-at-result receive-at-ensures _ (r-given .1)
+    deliver-refused (start .args .viewers) mesh from to serial sent first-message-result first-message-ensures receive-at-result receive-at-ensures _ (r-given .1)
 
 same-length-3 : tie.Need-same-length-3
 same-length-3 c = search needs
@@ -104,7 +104,7 @@ returns-3 c =
     let receive-at-result = (let p : tie.After-receive-at = search in p .receive-at .result) in
     let enum-told-given = (let p : tie.After-enum-told = search in p .enum-told .given) in
     let finish-ensures = (let p : tie.After-finish = search in p .finish .ensures) in
-    deliver-unfinished mesh from to serial sent first-message-result first-message-ensures receive-at-result receive-at-ensures
+    deliver-unfinished (start .args .viewers) mesh from to serial sent first-message-result first-message-ensures receive-at-result receive-at-ensures
     (enum-told-given .1) finish-ensures (c .if1 .left)
 
 pub deliver-spec : {M : Type 1} → statement M

@@ -10,7 +10,7 @@ use Rattle.rounds.proofs.play.Tie as tie
 returns : tie.Need-returns
 returns c =
     let start : tie.Start = search in
-    nobody-here (start .args .mesh .now) (start .args .from) (start .args .to) (start .args .serial) (start .args .outbox .now) (c .if1 .taken)
+    nobody-here (start .args .viewers) (start .args .mesh .now) (start .args .from) (start .args .to) (start .args .serial) (start .args .outbox .now) (c .if1 .taken)
 
 send-part-requires : tie.Need-send-part-requires
 send-part-requires c κs = search needs
@@ -26,14 +26,14 @@ slice-reshare-prefix-deliver c =
     let start : tie.Start = search in
     let send-part-ensures = (let p : tie.After-send-part = search in p .send-part .ensures) in
     let n-given = (let p : tie.After-n = search in p .n .given) in
-    within-outbox _ (start .args .to) (start .args .serial) (start .args .outbox .now) send-part-ensures (n-given .1)
+    within-outbox _ _ (start .args .to) (start .args .serial) (start .args .outbox .now) send-part-ensures (n-given .1)
 
 slice-aggregate-deliver : tie.Need-slice-aggregate-deliver
 slice-aggregate-deliver c =
     let start : tie.Start = search in
     let send-part-ensures = (let p : tie.After-send-part = search in p .send-part .ensures) in
     let n-given = (let p : tie.After-n = search in p .n .given) in
-    sym (length-take-le _ _ (within-outbox _ (start .args .to) (start .args .serial) (start .args .outbox .now) send-part-ensures (n-given .1)))
+    sym (length-take-le _ _ (within-outbox _ _ (start .args .to) (start .args .serial) (start .args .outbox .now) send-part-ensures (n-given .1)))
 
 deliver-requires : tie.Need-deliver-requires
 deliver-requires c κs = search needs
@@ -55,7 +55,7 @@ returns-2 c =
     let if1-left = (let p : tie.Else1 = search in p .if1 .left) in
     let send-part-ensures = (let p : tie.After-send-part = search in p .send-part .ensures) in
     let r-given = (let p : tie.After-r = search in p .r .given) in
-    refused-by-send mesh from to serial outbox if1-left _ send-part-ensures (r-given .1)
+    refused-by-send (start .args .viewers) mesh from to serial outbox if1-left _ send-part-ensures (r-given .1)
 
 same-length-3 : tie.Need-same-length-3
 same-length-3 c = search needs
@@ -75,7 +75,7 @@ returns-3 c =
     let send-part-ensures = (let p : tie.After-send-part = search in p .send-part .ensures) in
     let n-given = (let p : tie.After-n = search in p .n .given) in
     let deliver-ensures = (let p : tie.After-deliver = search in p .deliver .ensures) in
-    was-played mesh from to serial outbox if1-left _ _ send-part-ensures (n-given .1) deliver-ensures
+    was-played (start .args .viewers) mesh from to serial outbox if1-left _ _ send-part-ensures (n-given .1) deliver-ensures
 
 pub play-spec : {M : Type 1} → statement M
 play-spec =

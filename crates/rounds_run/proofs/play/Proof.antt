@@ -9,11 +9,11 @@ use Rattle.rounds_run.proofs.play.Statement.{statement}
 use Rattle.rounds_run.proofs.play.Tie as tie
 
 abbrev Inv-loop : tie.InvT-loop
-Inv-loop input at n mesh₀ k outbox₀ place₀ i₀ mesh outbox place i =
+Inv-loop input at n mesh₀ viewers k outbox₀ place₀ i₀ mesh outbox place i =
     (length mesh ≡ length mesh₀) × (length outbox ≡ length outbox₀) × (i ≤ n)
 
 abbrev μ-loop : tie.MeasureT-loop
-μ-loop input at n mesh₀ k outbox₀ place₀ i₀ mesh outbox place i =
+μ-loop input at n mesh₀ viewers k outbox₀ place₀ i₀ mesh outbox place i =
     n - i
 
 loop-holds : tie.Need-loop-holds Inv-loop μ-loop

@@ -32,6 +32,7 @@ same-length c = search needs
 returns : tie.Need-returns
 returns c =
     let start : tie.Start = search in
+    let viewers = start .args .viewers in
     let mesh = start .args .mesh .now in
     let scratch = start .args .scratch .now in
     let o = start .args .o in
@@ -41,17 +42,18 @@ returns c =
     let if1-taken = (let p : tie.Then1 = search in p .if1 .taken) in
     let refused-ensures = (let p : tie.After-refused2 = search in p .refused2 .ensures) in
     balanced (refused-ensures .0) (refused-ensures .1)
-    (refused-oracle mesh scratch (oracle-of o) (mesh-yes mesh scratch (enum-told-given .1) (mesh-asked-ensures .0))
+    (refused-oracle viewers mesh scratch (oracle-of o) (mesh-yes viewers mesh scratch (enum-told-given .1) (mesh-asked-ensures .0))
     (said-no oracle-right-ensures if1-taken) (mesh-asked-ensures .1))
 
 next-of-requires : tie.Need-next-of-requires
 next-of-requires c κs =
     let start : tie.Start = search in
+    let viewers = start .args .viewers in
     let mesh = start .args .mesh .now in
     let scratch = start .args .scratch .now in
     let mesh-asked-ensures = (let p : tie.After-mesh-asked = search in p .mesh-asked .ensures) in
     let enum-told-given = (let p : tie.After-enum-told = search in p .enum-told .given) in
-    parts-passed mesh scratch (mesh-yes mesh scratch (enum-told-given .1) (mesh-asked-ensures .0))
+    parts-passed viewers mesh scratch (mesh-yes viewers mesh scratch (enum-told-given .1) (mesh-asked-ensures .0))
 
 same-length-2 : tie.Need-same-length-2
 same-length-2 c = search needs
@@ -59,6 +61,7 @@ same-length-2 c = search needs
 returns-2 : tie.Need-returns-2
 returns-2 c =
     let start : tie.Start = search in
+    let viewers = start .args .viewers in
     let mesh = start .args .mesh .now in
     let scratch = start .args .scratch .now in
     let o = start .args .o in
@@ -66,7 +69,7 @@ returns-2 c =
     let q-given = (let p : tie.After-q = search in p .q .given) in
     let refused-ensures = (let p : tie.After-refused = search in p .refused .ensures) in
     balanced (refused-ensures .0) (refused-ensures .1)
-    (refused-mesh mesh scratch (oracle-of o) (mesh-no mesh scratch (q-given .1) (mesh-asked-ensures .0)) (mesh-asked-ensures .1))
+    (refused-mesh viewers mesh scratch (oracle-of o) (mesh-no viewers mesh scratch (q-given .1) (mesh-asked-ensures .0)) (mesh-asked-ensures .1))
 
 same-length-3 : tie.Need-same-length-3
 same-length-3 c = search needs
@@ -74,6 +77,7 @@ same-length-3 c = search needs
 returns-3 : tie.Need-returns-3
 returns-3 c =
     let start : tie.Start = search in
+    let viewers = start .args .viewers in
     let mesh = start .args .mesh .now in
     let scratch = start .args .scratch .now in
     let o = start .args .o in
@@ -83,7 +87,7 @@ returns-3 c =
     let if1-left = (let p : tie.Else1 = search in p .if1 .left) in
     let next-of-ensures = (let p : tie.After-next-of = search in p .next-of .ensures) in
     balanced refl (not-refused (c .next-of .result) next-of-ensures)
-    (gives-move mesh scratch (oracle-of o) (mesh-yes mesh scratch (enum-told-given .1) (mesh-asked-ensures .0))
+    (gives-move viewers mesh scratch (oracle-of o) (mesh-yes viewers mesh scratch (enum-told-given .1) (mesh-asked-ensures .0))
     (said-yes oracle-right-ensures if1-left) next-of-ensures (mesh-asked-ensures .1))
 
 pub next-move-spec : {M : Type 1} → statement M

@@ -25,12 +25,13 @@ same-length c = search needs
 returns : tie.Need-returns
 returns c =
     let start : tie.Start = search in
+    let viewers = start .args .viewers in
     let mesh = start .args .mesh .now in
     let scratch = start .args .scratch .now in
     let mesh-asked-ensures = (let p : tie.After-mesh-asked = search in p .mesh-asked .ensures) in
     let q-given = (let p : tie.After-q = search in p .q .given) in
     let refused-ensures = (let p : tie.After-refused = search in p .refused .ensures) in
-    balanced (refused-ensures .0) (refused-ensures .1) (other-mesh mesh scratch (mesh-no mesh scratch (q-given .1) (mesh-asked-ensures .0)) (mesh-asked-ensures .1))
+    balanced (refused-ensures .0) (refused-ensures .1) (other-mesh viewers mesh scratch (mesh-no viewers mesh scratch (q-given .1) (mesh-asked-ensures .0)) (mesh-asked-ensures .1))
 
 same-length-2 : tie.Need-same-length-2
 same-length-2 c = search needs
@@ -38,12 +39,13 @@ same-length-2 c = search needs
 returns-2 : tie.Need-returns-2
 returns-2 c =
     let start : tie.Start = search in
+    let viewers = start .args .viewers in
     let mesh = start .args .mesh .now in
     let scratch = start .args .scratch .now in
     let mesh-asked-ensures = (let p : tie.After-mesh-asked = search in p .mesh-asked .ensures) in
     let enum-told-given = (let p : tie.After-enum-told = search in p .enum-told .given) in
     let refused-ensures = (let p : tie.After-refused2 = search in p .refused2 .ensures) in
-    balanced (refused-ensures .0) (refused-ensures .1) (other-number mesh scratch (mesh-yes mesh scratch (enum-told-given .1) (mesh-asked-ensures .0)) (mesh-asked-ensures .1))
+    balanced (refused-ensures .0) (refused-ensures .1) (other-number viewers mesh scratch (mesh-yes viewers mesh scratch (enum-told-given .1) (mesh-asked-ensures .0)) (mesh-asked-ensures .1))
 
 pub without-oracle-spec : {M : Type 1} → statement M
 without-oracle-spec =

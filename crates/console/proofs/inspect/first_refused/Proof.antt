@@ -7,11 +7,11 @@ use Rattle.console.proofs.inspect.first_refused.Statement.{statement}
 use Rattle.console.proofs.inspect.first_refused.Tie as tie
 
 abbrev Inv-loop : tie.InvT-loop
-Inv-loop question mesh scratch₀ k b₀ scratch b =
+Inv-loop question mesh viewers scratch₀ k b₀ scratch b =
     (length scratch ≡ length scratch₀) × (k * 32776 ≤ length mesh)
 
 abbrev μ-loop : tie.MeasureT-loop
-μ-loop question mesh scratch₀ k b₀ scratch b =
+μ-loop question mesh viewers scratch₀ k b₀ scratch b =
     k - b
 
 loop-holds : tie.Need-loop-holds Inv-loop μ-loop

@@ -6,11 +6,11 @@ use Rattle.console.proofs.inspect.show_blocks.Statement.{statement}
 use Rattle.console.proofs.inspect.show_blocks.Tie as tie
 
 abbrev Inv-loop : tie.InvT-loop
-Inv-loop mesh k b₀ b =
+Inv-loop mesh viewers k b₀ b =
     k * 32776 ≤ length mesh
 
 abbrev μ-loop : tie.MeasureT-loop
-μ-loop mesh k b₀ b =
+μ-loop mesh viewers k b₀ b =
     k - b
 
 loop-holds : tie.Need-loop-holds Inv-loop μ-loop

@@ -7,11 +7,11 @@ use Rattle.dispatch.proofs.tasks.balance_parts.Statement.{statement}
 use Rattle.dispatch.proofs.tasks.balance_parts.Tie as tie
 
 abbrev Inv-loop : tie.InvT-loop
-Inv-loop by moves₀ mesh₀ scratch₀ outbox₀ most done₀ part₀ moves mesh scratch outbox done part =
+Inv-loop by moves₀ mesh₀ viewers scratch₀ outbox₀ most done₀ part₀ moves mesh scratch outbox done part =
     (length moves ≡ length moves₀) × (length mesh ≡ length mesh₀) × (length scratch ≡ length scratch₀) × (length outbox ≡ length outbox₀)
 
 abbrev μ-loop : tie.MeasureT-loop
-μ-loop by moves₀ mesh₀ scratch₀ outbox₀ most done₀ part₀ moves mesh scratch outbox done part =
+μ-loop by moves₀ mesh₀ viewers scratch₀ outbox₀ most done₀ part₀ moves mesh scratch outbox done part =
     most - part
 
 most-moves-requires : tie.Need-most-moves-requires Inv-loop μ-loop

@@ -28,7 +28,7 @@ returns : tie.Need-returns
 returns c =
     let start : tie.Start = search in
     let asked = (let p : tie.After-next-move = search in p .next-move .ensures) in
-    asked-as (start .args .mesh .now) (oracle-of (start .args .o)) (start .args .scratch .now) (start .args .n) _ (c .enum-told .given .1) asked refl refl
+    asked-as (start .args .viewers) (start .args .mesh .now) (oracle-of (start .args .o)) (start .args .scratch .now) (start .args .n) _ (c .enum-told .given .1) asked refl refl
 
 same-length-2 : tie.Need-same-length-2
 same-length-2 c = search needs
@@ -37,7 +37,7 @@ returns-2 : tie.Need-returns-2
 returns-2 c =
     let start : tie.Start = search in
     let asked = (let p : tie.After-next-move = search in p .next-move .ensures) in
-    asked-as (start .args .mesh .now) (oracle-of (start .args .o)) (start .args .scratch .now) (start .args .n) _ (c .enum-told2 .given .1) asked refl refl
+    asked-as (start .args .viewers) (start .args .mesh .now) (oracle-of (start .args .o)) (start .args .scratch .now) (start .args .n) _ (c .enum-told2 .given .1) asked refl refl
 
 same-length-3 : tie.Need-same-length-3
 same-length-3 c = search needs
@@ -46,7 +46,7 @@ returns-3 : tie.Need-returns-3
 returns-3 c =
     let start : tie.Start = search in
     let asked = (let p : tie.After-next-move = search in p .next-move .ensures) in
-    asked-as (start .args .mesh .now) (oracle-of (start .args .o)) (start .args .scratch .now) (start .args .n) _ (c .before .next .given .1) asked refl refl
+    asked-as (start .args .viewers) (start .args .mesh .now) (oracle-of (start .args .o)) (start .args .scratch .now) (start .args .n) _ (c .before .next .given .1) asked refl refl
 
 same-length-4 : tie.Need-same-length-4
 same-length-4 c = search needs
@@ -55,7 +55,7 @@ returns-4 : tie.Need-returns-4
 returns-4 c =
     let start : tie.Start = search in
     let asked = (let p : tie.After-next-move = search in p .next-move .ensures) in
-    asked-as (start .args .mesh .now) (oracle-of (start .args .o)) (start .args .scratch .now) (start .args .n) _ (c .before .next2 .given .1) asked refl refl
+    asked-as (start .args .viewers) (start .args .mesh .now) (oracle-of (start .args .o)) (start .args .scratch .now) (start .args .n) _ (c .before .next2 .given .1) asked refl refl
 
 pub ask-spec : {M : Type 1} → statement M
 ask-spec =

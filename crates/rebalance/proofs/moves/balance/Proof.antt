@@ -10,14 +10,14 @@ use Rattle.rebalance.proofs.moves.balance.Statement.{statement}
 use Rattle.rebalance.proofs.moves.balance.Tie as tie
 
 abbrev Inv-loop : tie.InvT-loop
-Inv-loop mesh₀ o scratch₀ outbox₀ moves₀ n₀ mesh scratch outbox moves n = Moving mesh₀ (oracle-of o) scratch₀ outbox₀ moves₀ n mesh scratch outbox moves
+Inv-loop mesh₀ viewers o scratch₀ outbox₀ moves₀ n₀ mesh scratch outbox moves n = Moving viewers mesh₀ (oracle-of o) scratch₀ outbox₀ moves₀ n mesh scratch outbox moves
 
 abbrev μ-loop : tie.MeasureT-loop
-μ-loop mesh₀ o scratch₀ outbox₀ moves₀ n₀ mesh scratch outbox moves n = length moves₀ / 3 - n
+μ-loop mesh₀ viewers o scratch₀ outbox₀ moves₀ n₀ mesh scratch outbox moves n = length moves₀ / 3 - n
 
 loop-holds : tie.Need-loop-holds Inv-loop μ-loop
 loop-holds c =
-    none-moved _ _ _ _ _
+    none-moved _ _ _ _ _ _
 
 step-requires : tie.Need-step-requires Inv-loop μ-loop
 step-requires c κs = search needs

@@ -8,14 +8,14 @@ use Rattle.rounds.proofs.list.play_all.Statement.{statement}
 use Rattle.rounds.proofs.list.play_all.Tie as tie
 
 abbrev Inv-loop : tie.InvT-loop
-Inv-loop mesh₀ requests outcomes₀ outbox₀ i₀ mesh outcomes outbox i = Playing mesh₀ requests outcomes₀ outbox₀ i mesh outcomes outbox
+Inv-loop mesh₀ viewers requests outcomes₀ outbox₀ i₀ mesh outcomes outbox i = Playing viewers mesh₀ requests outcomes₀ outbox₀ i mesh outcomes outbox
 
 abbrev μ-loop : tie.MeasureT-loop
-μ-loop mesh₀ requests outcomes₀ outbox₀ i₀ mesh outcomes outbox i = length outcomes₀ - i
+μ-loop mesh₀ viewers requests outcomes₀ outbox₀ i₀ mesh outcomes outbox i = length outcomes₀ - i
 
 loop-holds : tie.Need-loop-holds Inv-loop μ-loop
 loop-holds c =
-    none-played _ _ _ _
+    none-played _ _ _ _ _
 
 same-length : tie.Need-same-length Inv-loop μ-loop
 same-length c = search needs

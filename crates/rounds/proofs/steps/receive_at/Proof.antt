@@ -1,10 +1,10 @@
 -- `rounds::steps::receive_at` meets its contract.
 -- Assumes nothing.
-use Rattle.model.specs.Values.{rack}
+use Rattle.model.specs.Values.{limits-in}
+use Rattle.model.specs.Calls.{receive}
 use Rattle.model.specs.DividedRun.{receiving}
 use Rattle.receive.proofs.Answered.{size-refused}
-use Rattle.rounds.proofs.Stepping.{nowhere, receive-does}
-use native.Mathlib.Omega.{arith}
+use Rattle.rounds.proofs.Stepping.{nowhere, none-sized, receive-does}
 use borrow.Author.Needs.{needs}
 use Rattle.rounds.proofs.steps.receive_at.Statement.{statement}
 use Rattle.rounds.proofs.steps.receive_at.Tie as tie
@@ -15,7 +15,8 @@ returns c =
     let mesh = start .args .mesh .now in
     let b = start .args .b in
     let message = start .args .message .now in
-    nowhere mesh b (receiving message) _ (c .if1 .taken) (receive-does _ _) (size-refused rack _ _ (λ e. absurd (omega (arith, e))))
+    let lim = limits-in (start .args .viewers) b in
+    nowhere (start .args .viewers) mesh b (receiving message) (λ l x. receive l x message) (c .if1 .taken) (receive-does message) (size-refused lim _ _ (none-sized lim))
 
 receive-part-requires : tie.Need-receive-part-requires
 receive-part-requires c κs = search needs

@@ -11,16 +11,16 @@ use Rattle.rounds.proofs.steps.redirect_all.Statement.{statement}
 use Rattle.rounds.proofs.steps.redirect_all.Tie as tie
 
 abbrev Inv-loop : tie.InvT-loop
-Inv-loop mesh₀ updates ok₀ at₀ mesh ok at =
-    Telling mesh₀ updates at ok mesh
+Inv-loop mesh₀ viewers updates ok₀ at₀ mesh ok at =
+    Telling viewers mesh₀ updates at ok mesh
 
 abbrev μ-loop : tie.MeasureT-loop
-μ-loop mesh₀ updates ok₀ at₀ mesh ok at =
+μ-loop mesh₀ viewers updates ok₀ at₀ mesh ok at =
     length updates - at
 
 loop-holds : tie.Need-loop-holds Inv-loop μ-loop
 loop-holds c =
-    none-told _ _
+    none-told _ _ _
 
 sub-first-message : tie.Need-sub-first-message Inv-loop μ-loop
 sub-first-message c = search needs

@@ -1,10 +1,10 @@
 -- `rounds::steps::redirect_at` meets its contract.
 -- Assumes nothing.
-use Rattle.model.specs.Values.{rack}
+use Rattle.model.specs.Values.{limits-in}
+use Rattle.model.specs.Calls.{redirect}
 use Rattle.model.specs.DividedRun.{redirecting}
 use Rattle.redirect.proofs.Answered.{size-refused}
-use Rattle.rounds.proofs.Stepping.{nowhere, redirect-does}
-use native.Mathlib.Omega.{arith}
+use Rattle.rounds.proofs.Stepping.{nowhere, none-sized, redirect-does}
 use borrow.Author.Needs.{needs}
 use Rattle.rounds.proofs.steps.redirect_at.Statement.{statement}
 use Rattle.rounds.proofs.steps.redirect_at.Tie as tie
@@ -15,7 +15,8 @@ returns c =
     let mesh = start .args .mesh .now in
     let b = start .args .b in
     let message = start .args .message .now in
-    nowhere mesh b (redirecting message) _ (c .if1 .taken) (redirect-does _ _) (size-refused rack _ _ (λ e. absurd (omega (arith, e))))
+    let lim = limits-in (start .args .viewers) b in
+    nowhere (start .args .viewers) mesh b (redirecting message) (λ l x. redirect l x message) (c .if1 .taken) (redirect-does message) (size-refused lim _ _ (none-sized lim))
 
 redirect-part-requires : tie.Need-redirect-part-requires
 redirect-part-requires c κs = search needs

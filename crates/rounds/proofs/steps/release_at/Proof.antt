@@ -1,9 +1,10 @@
 -- `rounds::steps::release_at` meets its contract.
 -- Assumes nothing.
+use Rattle.model.specs.Values.{limits-in}
+use Rattle.model.specs.Calls.{release}
 use Rattle.model.specs.DividedRun.{releasing}
 use Rattle.release.proofs.LettingGo.{size-refused}
-use Rattle.rounds.proofs.Stepping.{nowhere, release-does}
-use native.Mathlib.Omega.{arith}
+use Rattle.rounds.proofs.Stepping.{nowhere, none-sized, release-does}
 use borrow.Author.Needs.{needs}
 use Rattle.rounds.proofs.steps.release_at.Statement.{statement}
 use Rattle.rounds.proofs.steps.release_at.Tie as tie
@@ -15,7 +16,8 @@ returns c =
     let b = start .args .b in
     let to = start .args .to in
     let serial = start .args .serial in
-    nowhere mesh b (releasing to serial) _ (c .if1 .taken) (release-does _ _ _) (size-refused _ _ _ (λ e. absurd (omega (arith, e))))
+    let lim = limits-in (start .args .viewers) b in
+    nowhere (start .args .viewers) mesh b (releasing to serial) (λ l x. release l x to serial) (c .if1 .taken) (release-does to serial) (size-refused _ _ _ lim (none-sized lim))
 
 release-part-requires : tie.Need-release-part-requires
 release-part-requires c κs = search needs
