@@ -72,7 +72,7 @@ pub record Links (ds : List Dart) : Type 0 where
 pub found_in : (key : Dart → ℕ) (x : ℕ) (ds : List Dart) (d : Dart) → find key x ds ≡ some d → In d.serial (serials ds)
 found_in key x [] d p = absurd (none-ne-some d p)
 found_in key x (e ∷ ds) d p = by_cases (eqb x (key e))
-    (λ k. let q : e ≡ d = some-injective e d (rw k at p) in rw (← q) (in_here e.serial (serials ds)))
+    (λ k. let q : e ≡ d = some-injective e d (rw k at p) in subst (λ (u : Dart). In u.serial (e.serial ∷ serials ds)) q (in_here e.serial (serials ds)))
     (λ k. in_there d.serial e.serial (serials ds) (found_in key x ds d (rw k at p)))
 
 -- serials are distinct: a dart that is found by another key is the one found by its serial
