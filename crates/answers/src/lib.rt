@@ -4,7 +4,7 @@ ghost use Rattle.model.specs.Calls.{number_of, values_of, written_values, move_v
 ghost use Rattle.answers.specs.Answers.{question, answer-of, written_of, move-of};
 
 // One case for each question, 1 to 30, in their order.
-#[derive(Drop)]
+#[derive(Clone, Copy)]
 pub enum Refusal {
     MemorySize,
     NotAnImage,
@@ -39,21 +39,21 @@ pub enum Refusal {
 }
 
 // Of a call that adds nothing to its answer.
-#[derive(Drop)]
+#[derive(Clone, Copy)]
 pub enum Answer {
     Served,
     Refused(Refusal),
 }
 
 // Of a call that adds the bytes written.
-#[derive(Drop)]
+#[derive(Clone, Copy)]
 pub enum Written {
     Served(usize),
     Refused(Refusal),
 }
 
 // Of next move: donor, recipient and serial of a move.
-#[derive(Drop)]
+#[derive(Clone, Copy)]
 pub enum NextMove {
     Level,
     Blocked,

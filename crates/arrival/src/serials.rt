@@ -83,7 +83,7 @@ fn in_gap(block: &[u64], n: usize, gap: Place, serial: u64) -> bool
 }
 
 // The place past those of a block's serials that are below one that is new, or that it is not: 0, or held.
-#[derive(Drop)]
+#[derive(Clone, Copy)]
 pub enum Gap {
     Below(Place),
     NotNew,

@@ -9,7 +9,7 @@ use memory::record;
 use memory::record::{Place, Record};
 
 // A volume that may go, by its least serial.
-#[derive(Drop)]
+#[derive(Clone, Copy)]
 pub enum Candidate {
     Volume(u64),
     Nothing,

@@ -57,7 +57,7 @@ fn between(mesh: &[u64], viewers: u32, d: usize, to: usize, sizes: &mut [usize])
 }
 
 // A move from a known block: the recipient, and the serial of the volume.
-#[derive(Drop)]
+#[derive(Clone, Copy)]
 enum Found {
     Move(u32, u64),
     Nothing,

@@ -14,7 +14,7 @@ use memory::point::Point;
 use oracle::Oracle;
 
 // The answer of next move: the mean and the surplus of each block beside it, 0 for a block that the mesh has not. All zero beside a refusal.
-#[derive(Drop)]
+#[derive(Clone, Copy)]
 pub struct Balance {
     pub next: NextMove,
     pub mean: u32,

@@ -20,7 +20,7 @@ pub fn put_links(out: &mut [u8], at: usize, serial: u64, next: u64, opposite: u6
 }
 
 // A dart as a file has it: links by serial, where memory has places, kind word and what the third link names, the words of its point.
-#[derive(Drop)]
+#[derive(Clone, Copy)]
 pub struct FileDart {
     pub serial: u64,
     pub next: u64,
@@ -33,7 +33,7 @@ pub struct FileDart {
 }
 
 // A dart that was read, and the place past it.
-#[derive(Drop)]
+#[derive(Clone, Copy)]
 pub enum Parsed {
     Dart(FileDart, usize),
     Bad,

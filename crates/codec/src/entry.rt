@@ -29,7 +29,7 @@ pub fn put_point(out: &mut [u8], at: usize, p: Point) -> usize
 }
 
 // A point that was read, and the place past it. Its coordinates stay words: only finite ones make a point, and that is asked later.
-#[derive(Drop)]
+#[derive(Clone, Copy)]
 pub enum Located {
     Point(u64, u64, u64, usize),
     Bad,
@@ -61,7 +61,7 @@ pub fn put_dart(out: &mut [u8], at: usize, vertex: usize, serial: u64) -> usize
 }
 
 // A dart of a face that was read: its vertex, its serial, and the place past it.
-#[derive(Drop)]
+#[derive(Clone, Copy)]
 pub enum Faced {
     Dart(u64, u64, usize),
     Bad,
@@ -121,7 +121,7 @@ pub fn pass_part3(s: &[u8], at: usize) -> Read
 }
 
 // A part whose entries are two numbers: a label's code or a number, then an index.
-#[derive(Drop)]
+#[derive(Clone, Copy)]
 pub enum Paired {
     Second,
     Third,

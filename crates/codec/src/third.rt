@@ -26,7 +26,7 @@ pub fn put_third(kind: u64, named: u64, out: &mut [u8], at: usize) -> usize
 }
 
 // A third link that was read, as kind word and link word, and the place past it.
-#[derive(Drop)]
+#[derive(Clone, Copy)]
 pub enum Linked {
     Link(u64, u64, usize),
     Bad,

@@ -4,7 +4,7 @@ ghost use Rattle.commands.specs.Commands.{command_in, oracle_word_in, option_wor
 
 use crate::words;
 
-#[derive(Drop)]
+#[derive(Clone, Copy)]
 pub enum Command {
     Check,
     List,
@@ -20,7 +20,7 @@ pub enum Command {
 }
 
 // What a word that begins with two minuses asks for: nothing is saved; nothing is saved unless every request is served.
-#[derive(Drop)]
+#[derive(Clone, Copy)]
 pub enum OptionWord {
     DryRun,
     AllOrNothing,
@@ -28,7 +28,7 @@ pub enum OptionWord {
 }
 
 // How an oracle is named: every volume, a box, a plane.
-#[derive(Drop)]
+#[derive(Clone, Copy)]
 pub enum OracleWord {
     All,
     Box,

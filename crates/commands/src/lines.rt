@@ -6,14 +6,14 @@ use crate::words;
 use crate::words::{Kind, Number};
 
 // What stands next in a line: a number and the place past it, or anything else.
-#[derive(Drop)]
+#[derive(Clone, Copy)]
 pub enum Field {
     Value(u64, usize),
     Other,
 }
 
 // A line: a request's two blocks and serial, no word, or anything else.
-#[derive(Drop)]
+#[derive(Clone, Copy)]
 pub enum Line {
     Request(u64, u64, u64),
     Blank,

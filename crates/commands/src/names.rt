@@ -3,7 +3,7 @@ ghost use Rattle.std.specs.Prelude.{◌≡◌, ◌+◌, ◌/◌, ◌%◌};
 ghost use Rattle.commands.specs.Names.{block_name, name_of, padded, file_named, nameless};
 
 // Block b's file and its new file; the commit and the new commit.
-#[derive(Drop)]
+#[derive(Clone, Copy)]
 pub enum File {
     Block(usize),
     NewBlock(usize),
@@ -12,7 +12,7 @@ pub enum File {
 }
 
 // A name: so many bytes, and zeros behind them.
-#[derive(Drop)]
+#[derive(Clone, Copy)]
 pub struct Name {
     pub bytes: [u8; 17],
     pub size: usize,

@@ -7,7 +7,7 @@ ghost use Rattle.commands.specs.Viewers.{number_then, goes_on_with, viewers_in a
 use crate::{names, words};
 
 // The blocks that are viewers', bit b for block b; or that a text is no line of them.
-#[derive(Drop)]
+#[derive(Clone, Copy)]
 pub enum Viewers {
     Bits(u32),
     Wrong,

@@ -5,14 +5,14 @@ ghost use Rattle.model.specs.Text.{is_digit as digit-test};
 ghost use Rattle.commands.specs.Words.{belongs as belongs-to, leading as leading-in, number_in as number_of};
 
 // A number's value, or that a text is none.
-#[derive(Drop)]
+#[derive(Clone, Copy)]
 pub enum Number {
     Is(u64),
     Not,
 }
 
 // What a byte may belong to: the blanks between words, a word, a line.
-#[derive(Drop)]
+#[derive(Clone, Copy)]
 pub enum Kind {
     Blanks,
     Word,

@@ -97,14 +97,14 @@ pub fn word(i: usize, room: &mut [u8]) -> usize
 }
 
 // What the options ask for: that nothing is saved; that nothing is saved unless every request is served.
-#[derive(Drop)]
+#[derive(Clone, Copy)]
 pub struct Options {
     pub dry: bool,
     pub whole: bool,
 }
 
 // The options of a command, or that one of them is unknown, which was told.
-#[derive(Drop)]
+#[derive(Clone, Copy)]
 pub enum Given {
     Options(Options),
     Told,
@@ -186,7 +186,7 @@ fn coordinate_at(i: usize) -> Decimal {
 }
 
 // Three words as a point.
-#[derive(Drop)]
+#[derive(Clone, Copy)]
 enum Corner {
     At(Point),
     Not,
@@ -206,7 +206,7 @@ fn corner_at(i: usize, j: usize, k: usize) -> Corner {
 }
 
 // The oracle that words name; that one of them is no coordinate, which was told; or that they are not what an oracle takes.
-#[derive(Drop)]
+#[derive(Clone, Copy)]
 pub enum Named {
     Oracle(Oracle),
     Told,

@@ -6,7 +6,7 @@ use commands::words::{Kind, Number};
 use memory::header::Header;
 
 // What two listings say of their darts: the same; a serial that one of them has alone; one that has other links in each.
-#[derive(Drop)]
+#[derive(Clone, Copy)]
 pub enum Difference {
     Same,
     FirstAlone(u64),

@@ -5,7 +5,7 @@ use commands::{lines, words};
 use system::say;
 
 // What an input has: so many requests; a line that is none; a last line that is cut off; more requests than there is room for.
-#[derive(Drop)]
+#[derive(Clone, Copy)]
 pub enum Input {
     Requests(usize),
     Wrong(u64),
@@ -14,7 +14,7 @@ pub enum Input {
 }
 
 // How a line was taken: so many requests so far, or not.
-#[derive(Drop)]
+#[derive(Clone, Copy)]
 enum Taken {
     Requests(usize),
     Wrong,

@@ -15,7 +15,7 @@ use memory::{lookup, point};
 pub mod thousandths; // thousandths.rt: a float as whole thousandths
 
 // The mean of a cell's corners; or that no cell has the serial, or that the memory is no sound block's image.
-#[derive(Drop)]
+#[derive(Clone, Copy)]
 pub enum Mean {
     Is(Point),
     Not,

@@ -4,7 +4,7 @@ ghost use Rattle.corners.specs.Thousandths.{digit_count, thousandths_of};
 
 // Whether it is below zero, and its size in thousandths, rounded; or that it is above 10^9 in size, or no number. Up to there a thousand
 // times the size is below 2^53, so that its whole part is that of the float product.
-#[derive(Drop)]
+#[derive(Clone, Copy)]
 pub enum Thousandths {
     Are(bool, u64),
     Far,

@@ -15,21 +15,21 @@ use commands::words;
 use commands::words::Number;
 
 // A text's float, or that it is no decimal that is read exactly.
-#[derive(Drop)]
+#[derive(Clone, Copy)]
 pub enum Decimal {
     Is(f64),
     Not,
 }
 
 // The digits at the start of a text: the number that they give behind others, 10^15 where it is more, and how many there are.
-#[derive(Drop)]
+#[derive(Clone, Copy)]
 struct Digits {
     value: u64,
     count: usize,
 }
 
 // What an exponent says: how far up or down the power of ten goes.
-#[derive(Drop)]
+#[derive(Clone, Copy)]
 enum Power {
     Up(u64),
     Down(u64),

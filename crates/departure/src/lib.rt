@@ -15,7 +15,7 @@ use memory::lookup::Found;
 use memory::record::Place;
 
 // How many darts, faces and vertices a volume has, and how many of its faces are sewn to another volume.
-#[derive(Drop)]
+#[derive(Clone, Copy)]
 pub struct Counts {
     pub darts: usize,
     pub faces: usize,
@@ -24,7 +24,7 @@ pub struct Counts {
 }
 
 // Whether a volume may leave: what it has, or the first question whose answer is no.
-#[derive(Drop)]
+#[derive(Clone, Copy)]
 pub enum Leaving {
     Volume(Counts),
     Refused(Refusal),

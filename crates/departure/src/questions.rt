@@ -15,21 +15,21 @@ use memory::lookup::Found;
 use memory::record::Place;
 
 // A volume that was walked, and how many darts it has.
-#[derive(Drop)]
+#[derive(Clone, Copy)]
 pub enum Walk {
     Volume(usize),
     TooLarge,
 }
 
 // How many vertices a volume has whose edges all have other ends.
-#[derive(Drop)]
+#[derive(Clone, Copy)]
 pub enum Pairs {
     Once(usize),
     Repeated,
 }
 
 // How many faces of a volume are sewn to another, if the counter has numbers for them.
-#[derive(Drop)]
+#[derive(Clone, Copy)]
 pub enum Sewn {
     Faces(usize),
     CounterFull,

@@ -290,7 +290,7 @@ fn play(
 }
 
 // The task that words name, or that they name none, which was told.
-#[derive(Drop)]
+#[derive(Clone, Copy)]
 enum Planned {
     Task(Task),
     Told,
@@ -340,7 +340,7 @@ fn balance_words() -> Planned {
 }
 
 // A number of blocks for a basin.
-#[derive(Drop)]
+#[derive(Clone, Copy)]
 enum Blocks {
     Are(usize),
     Told,

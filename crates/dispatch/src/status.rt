@@ -1,5 +1,5 @@
 // How a command ended: done; refused, a request or a check; or not done, for another reason.
-#[derive(Drop)]
+#[derive(Clone, Copy)]
 pub enum Status {
     Done,
     Refused,

@@ -12,7 +12,7 @@ use system::lock::Taken;
 use system::{lock, say};
 
 // Plays so many requests; balances; adds empty blocks up to so many, and balances or does not.
-#[derive(Drop)]
+#[derive(Clone, Copy)]
 pub enum Task {
     Play(usize),
     Balance(Oracle),
@@ -79,7 +79,7 @@ fn play_on(
 }
 
 // How a balance or a part of it ended, after so many moves: there are more, it is level or blocked; or an error or a refusal, which was told.
-#[derive(Drop)]
+#[derive(Clone, Copy)]
 enum Ended {
     More(u64),
     Level(u64),

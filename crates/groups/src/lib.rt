@@ -23,7 +23,7 @@ const LAST_MAKER: u64 = 15;
 const LAST_POSITION: u64 = 4095;
 
 // The value that was read and the place past it, or that no value stands there.
-#[derive(Drop)]
+#[derive(Clone, Copy)]
 pub enum Read {
     Value(u64, usize),
     Bad,

@@ -90,7 +90,7 @@ fn read_face(
 }
 
 // How many darts the faces have, whether one has none, and the place past them.
-#[derive(Drop)]
+#[derive(Clone, Copy)]
 pub struct Faces {
     pub hollow: bool,
     pub darts: usize,
@@ -98,7 +98,7 @@ pub struct Faces {
 }
 
 // Not: there are no darts, or too many.
-#[derive(Drop)]
+#[derive(Clone, Copy)]
 pub enum FacesOrNot {
     Faces(Faces),
     Not,

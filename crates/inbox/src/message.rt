@@ -33,14 +33,14 @@ pub fn framed_head(s: &[u8]) -> HeadOrNot
 }
 
 // A count, where the first entry stands, and the place past the last.
-#[derive(Drop)]
+#[derive(Clone, Copy)]
 pub struct Counted {
     pub count: u64,
     pub first: usize,
     pub next: usize,
 }
 
-#[derive(Drop)]
+#[derive(Clone, Copy)]
 pub enum CountedOrNot {
     Counted(Counted),
     Not,
@@ -61,7 +61,7 @@ fn counted_part(s: &[u8], at: usize, part: Part, darts: usize, sizes: &[usize]) 
 }
 
 // Part 1 of a transfer: its ends, where its points stand, how many darts it has, and the place past them.
-#[derive(Drop)]
+#[derive(Clone, Copy)]
 pub struct Front {
     pub hollow: bool,
     pub from: u64,
@@ -72,7 +72,7 @@ pub struct Front {
     pub next: usize,
 }
 
-#[derive(Drop)]
+#[derive(Clone, Copy)]
 pub enum FrontOrNot {
     Front(Front),
     Not,
@@ -112,7 +112,7 @@ pub fn read_front(
 }
 
 // Parts 2 to 4 of a transfer: how many entries each has, and where the first one stands.
-#[derive(Drop)]
+#[derive(Clone, Copy)]
 pub struct Tail {
     pub count2: u64,
     pub part2: usize,
@@ -122,7 +122,7 @@ pub struct Tail {
     pub part4: usize,
 }
 
-#[derive(Drop)]
+#[derive(Clone, Copy)]
 pub enum TailOrNot {
     Tail(Tail),
     Not,
@@ -158,7 +158,7 @@ pub fn read_tail(s: &[u8], at: usize, darts: usize, sizes: &[usize]) -> TailOrNo
 }
 
 // An update: its ends, the new block, how many labels it has and where the first one stands.
-#[derive(Drop)]
+#[derive(Clone, Copy)]
 pub struct Update {
     pub from: u64,
     pub to: u64,
@@ -167,7 +167,7 @@ pub struct Update {
     pub labels: usize,
 }
 
-#[derive(Drop)]
+#[derive(Clone, Copy)]
 pub enum UpdateOrNot {
     Update(Update),
     Not,

@@ -30,7 +30,7 @@ pub fn pass_part4(s: &[u8], at: usize, darts: usize, sizes: &[usize]) -> Read
 }
 
 // A part of a message: a count, and so many entries.
-#[derive(Drop)]
+#[derive(Clone, Copy)]
 pub enum Part {
     Second,
     Third,

@@ -6,7 +6,7 @@ use crate::message;
 use crate::message::{Front, FrontOrNot, Tail, TailOrNot, Update, UpdateOrNot};
 use reader::HeadOrNot;
 
-#[derive(Drop)]
+#[derive(Clone, Copy)]
 pub enum Received {
     Transfer(Front, Tail),
     Update(Update),

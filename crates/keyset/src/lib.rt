@@ -55,7 +55,7 @@ fn probe(keys: &[u64], table: &[u16; SLOTS], x: u64, h: usize) -> usize
 }
 
 // What a search through the slots finds: no two keys are the same, two are, or it gave up.
-#[derive(Drop)]
+#[derive(Clone, Copy)]
 pub enum Search {
     Distinct,
     Repeated,

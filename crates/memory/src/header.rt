@@ -12,7 +12,7 @@ use answers::{Answer, Refusal};
 pub const BLOCKS: usize = Header::BLOCKS as usize;
 
 // The header by value. A block's sizes are its constants.
-#[derive(Drop)]
+#[derive(Clone, Copy)]
 pub struct Header {
     pub number: u64,
     pub counter: u64,
@@ -109,7 +109,7 @@ impl Header {
 }
 
 // How many darts a block may have, and how many a volume that is sent.
-#[derive(Drop)]
+#[derive(Clone, Copy)]
 pub struct Limits {
     pub block: usize,
     pub volume: usize,

@@ -7,7 +7,7 @@ ghost use Rattle.memory.specs.Lookup.{place_in};
 use crate::record;
 use crate::record::{Place, Record};
 
-#[derive(Drop)]
+#[derive(Clone, Copy)]
 pub enum Found {
     At(Place),
     Nothing,

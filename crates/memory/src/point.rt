@@ -9,7 +9,7 @@ ghost use Rattle.memory.specs.Point.{point_of, patterns, FinitePoint, FiniteAt, 
 use crate::record;
 use crate::record::{Place, Record};
 
-#[derive(Drop)]
+#[derive(Clone, Copy)]
 pub struct Point {
     pub x: f64,
     pub y: f64,

@@ -4,15 +4,15 @@ ghost use Rattle.model.specs.Image.{words_for, column};
 ghost use Rattle.memory.specs.Record.{record_in, record_words, put};
 
 // The place of a dart in a block.
-#[derive(Drop)]
+#[derive(Clone, Copy)]
 pub struct Place(pub usize);
 
 // The index of a dart in a message. Neither stands for the other.
-#[derive(Drop)]
+#[derive(Clone, Copy)]
 pub struct MessageIndex(pub usize);
 
 // The words of a dart: serial, the places of next and opposite, kind + 4 × other block, place of the sewn dart or label's code, point.
-#[derive(Drop)]
+#[derive(Clone, Copy)]
 pub struct Record {
     pub serial: u64,
     pub next: u64,

@@ -9,7 +9,7 @@ ghost use Rattle.oracle.specs.Oracle.{oracle_of, holds as holds_of};
 
 use memory::point::Point;
 
-#[derive(Drop)]
+#[derive(Clone, Copy)]
 pub enum Oracle {
     Every,
     Box(Point, Point),

@@ -16,7 +16,7 @@ use departure::Counts;
 use memory::header::Header;
 
 // How many entries parts 2 and 4 have, the bytes of the message after its first number, and those of the whole message.
-#[derive(Drop)]
+#[derive(Clone, Copy)]
 pub struct Sizes {
     pub part2: usize,
     pub part4: usize,

@@ -17,7 +17,7 @@ ghost use Rattle.pairing.specs.Told.{pairing_of};
 use memory::header::Header;
 
 // What questions 25 and 26 say.
-#[derive(Drop)]
+#[derive(Clone, Copy)]
 pub enum Pairing {
     Right,
     Unpaired,

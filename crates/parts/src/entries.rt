@@ -40,7 +40,7 @@ pub fn read_pairs(
 }
 
 // An entry of part 4: the index, the block, where the labels stand, and the place past them.
-#[derive(Drop)]
+#[derive(Clone, Copy)]
 pub struct Entry {
     pub index: MessageIndex,
     pub other: u64,
@@ -48,7 +48,7 @@ pub struct Entry {
     pub next: usize,
 }
 
-#[derive(Drop)]
+#[derive(Clone, Copy)]
 pub enum EntryOrNot {
     Entry(Entry),
     Not,

@@ -13,7 +13,7 @@ use memory::{point, record};
 // The place of a new dart in the draft, which is a block's memory of the new darts alone. `MessageIndex` counts the darts of the
 // transfer in message order, `DraftPlace` the same darts by serial, `Place` the darts of the block, before or after they join it; none
 // stands for another. The words of a record are places of the memory that it stands in.
-#[derive(Drop)]
+#[derive(Clone, Copy)]
 pub struct DraftPlace(pub usize);
 
 // The index of a dart of the same face or edge, by index: the start of the face, the opposite.

@@ -8,7 +8,7 @@ ghost use Rattle.reader.specs.Heads.{read_after, head_of, head_in};
 use groups::Read;
 
 // A message, and the value that was read last with the place past it. Once a read was bad, so is each one after it.
-#[derive(Drop)]
+#[derive(Clone, Copy)]
 pub struct Reader<'a> {
     pub src: &'a [u8],
     pub last: Read,
@@ -174,7 +174,7 @@ pub fn read_at_most(s: &[u8], at: usize, most: u64) -> Read
 }
 
 // The four numbers that a message begins with; the body is what the first one counts, and next is past the last one.
-#[derive(Drop)]
+#[derive(Clone, Copy)]
 pub struct Head {
     pub length: u64,
     pub body: usize,
@@ -184,7 +184,7 @@ pub struct Head {
     pub next: usize,
 }
 
-#[derive(Drop)]
+#[derive(Clone, Copy)]
 pub enum HeadOrNot {
     Head(Head),
     Not,

@@ -11,7 +11,7 @@ use memory::header::{Header, Limits};
 use memory::record::{Place, Record};
 
 // Where the darts of a file end.
-#[derive(Drop)]
+#[derive(Clone, Copy)]
 pub enum End {
     At(usize),
     Bad,

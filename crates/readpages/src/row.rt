@@ -17,7 +17,7 @@ pub const LINE_FEED: u8 = 10;
 pub const LINE: usize = 81;
 
 // A dart as its line has it: serials, kind word, and what the third link names.
-#[derive(Drop)]
+#[derive(Clone, Copy)]
 pub struct Row {
     pub serial: u64,
     pub next: u64,
@@ -26,7 +26,7 @@ pub struct Row {
     pub link: u64,
 }
 
-#[derive(Drop)]
+#[derive(Clone, Copy)]
 pub enum RowOrNot {
     Row(Row),
     Bad,

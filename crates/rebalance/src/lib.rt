@@ -11,7 +11,7 @@ use rounds::Outcome;
 
 // What a step comes to: no two counts that differ by two, no volume that may go, a volume moved (donor, recipient, serial), a round that was
 // taken and yet not finished, or a no of the next move or of its round.
-#[derive(Drop)]
+#[derive(Clone, Copy)]
 pub enum Ending {
     Level,
     Blocked,

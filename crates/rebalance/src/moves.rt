@@ -11,7 +11,7 @@ use oracle::Oracle;
 
 // How balancing ends, and how many moves were carried out: no two counts that differ by two, no volume that may go, another move and no
 // room for it, a round that was taken and yet not finished, or a no of the next move or of its round.
-#[derive(Drop)]
+#[derive(Clone, Copy)]
 pub enum Balanced {
     Level(usize),
     Blocked(usize),

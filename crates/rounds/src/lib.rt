@@ -17,7 +17,7 @@ use answers::{Answer, Refusal, Written};
 use memory::header::Header;
 
 // How a round ends: refused by send or receive, finished, or taken and yet not finished.
-#[derive(Drop)]
+#[derive(Clone, Copy)]
 pub enum Outcome {
     Finished,
     Unfinished,

@@ -8,7 +8,7 @@ use groups::Read;
 use memory::header::Header;
 
 // What a commit says of a file: its length and its digest.
-#[derive(Drop)]
+#[derive(Clone, Copy)]
 pub struct Entry {
     pub size: u64,
     pub digest: u64,

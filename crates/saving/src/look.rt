@@ -5,14 +5,14 @@ ghost use Rattle.saving.specs.Looks.{same_entry, file_found, look_found, look_of
 use crate::commit::Entry;
 
 // What stands under a name.
-#[derive(Drop)]
+#[derive(Clone, Copy)]
 pub enum Found {
     Nothing,
     File(Entry),
 }
 
 // The new file is the committed one, and is to be put in place; it is in place; neither.
-#[derive(Drop)]
+#[derive(Clone, Copy)]
 pub enum Look {
     Place,
     Placed,

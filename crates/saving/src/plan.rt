@@ -5,7 +5,7 @@ ghost use Rattle.saving.specs.Plan.{save_step, writing_step, placing_step, recov
 use commands::names::File;
 
 // Write a file; give it another name; take it away; have the disk keep the folder's names.
-#[derive(Drop)]
+#[derive(Clone, Copy)]
 pub enum Step {
     Write(File),
     Rename(File, File),

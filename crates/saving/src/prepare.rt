@@ -11,14 +11,14 @@ use commands::names::{File, Name};
 use memory::header::Header;
 
 // How many bytes were put, or that they cannot be.
-#[derive(Drop)]
+#[derive(Clone, Copy)]
 pub enum Made {
     Bytes(usize),
     Cannot,
 }
 
 // What is to be done: so many bytes written under the name; the name changed to the other; the name taken away; the folder's names kept.
-#[derive(Drop)]
+#[derive(Clone, Copy)]
 pub enum Act {
     Write(usize),
     Rename,
@@ -28,7 +28,7 @@ pub enum Act {
     Cannot,
 }
 
-#[derive(Drop)]
+#[derive(Clone, Copy)]
 pub struct Deed {
     pub act: Act,
     pub name: Name,
@@ -36,7 +36,7 @@ pub struct Deed {
 }
 
 // The entry of a block's file, where it has one.
-#[derive(Drop)]
+#[derive(Clone, Copy)]
 enum Known {
     Is(Entry),
     Not,

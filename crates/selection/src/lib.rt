@@ -76,7 +76,7 @@ fn some(block: &[u64], o: Oracle, second: bool, order: &[usize], from: usize, to
 }
 
 // The queue's length, and the size of a picked volume.
-#[derive(Drop)]
+#[derive(Clone, Copy)]
 struct Measured {
     tail: usize,
     size: usize,

@@ -75,7 +75,7 @@ fn darts_right(block: &[u64], n: usize, seen: &mut [u8]) -> bool
 }
 
 // Whether each dart is right with the darts that it links to; then how many of them are critical.
-#[derive(Drop)]
+#[derive(Clone, Copy)]
 enum Far {
     Right(usize),
     Wrong,

@@ -1,7 +1,7 @@
 // What is told of a block.
 
 // How many darts, volumes, pieces and critical faces it has, and its counter.
-#[derive(Drop)]
+#[derive(Clone, Copy)]
 pub struct BlockCounts {
     pub darts: u64,
     pub volumes: u64,

@@ -17,7 +17,7 @@ use memory::record::{Place, Record};
 use memory::{kind, record};
 
 // How many cells were told; or that there is no room for their rows; or that the memory is no sound block's image.
-#[derive(Drop)]
+#[derive(Clone, Copy)]
 pub enum Told {
     Cells(usize),
     Short,

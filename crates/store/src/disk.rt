@@ -103,7 +103,7 @@ fn carry_out(step: Step, mesh: &[u64], room: &mut [u8]) -> i32 {
 }
 
 // What stands under a name, or that it cannot be read.
-#[derive(Drop)]
+#[derive(Clone, Copy)]
 enum Sight {
     Is(Found),
     Trouble,

@@ -14,7 +14,7 @@ use system::files::{Contents, Opened};
 use system::{files, process, say};
 
 // What is wrong with a file.
-#[derive(Drop)]
+#[derive(Clone, Copy)]
 pub enum Fault {
     Refused(u32),
     TooLarge,
@@ -24,7 +24,7 @@ pub enum Fault {
 
 // What is seen: so many blocks; one whose file is wrong; one that is missing before another; a commit that is none, or that cannot be read; a
 // save goes on.
-#[derive(Drop)]
+#[derive(Clone, Copy)]
 pub enum Seen {
     Blocks(usize),
     Wrong(usize, Fault),
@@ -35,7 +35,7 @@ pub enum Seen {
 }
 
 // How one block was read.
-#[derive(Drop)]
+#[derive(Clone, Copy)]
 enum Part {
     Block,
     Missing,
@@ -290,7 +290,7 @@ fn look_again(mesh: &mut [u64], room: &mut [u8]) -> Seen {
 }
 
 // A basin that was read: so many blocks, or not, since a file is refused or for another reason; what is wrong is said.
-#[derive(Drop)]
+#[derive(Clone, Copy)]
 pub enum Basin {
     Blocks(usize),
     Refused,

@@ -4,7 +4,7 @@ ghost use Rattle.std.specs.Prelude.{◌≤◌, length};
 use crate::{say, text};
 
 // What a file holds, or why that is not known.
-#[derive(Drop)]
+#[derive(Clone, Copy)]
 pub enum Contents {
     Bytes(usize),
     Missing,
@@ -22,7 +22,7 @@ fn last_error() -> i32 {
 }
 
 // How opening a file went.
-#[derive(Drop)]
+#[derive(Clone, Copy)]
 pub enum Opened {
     At(i32),
     Missing,

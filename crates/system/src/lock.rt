@@ -9,7 +9,7 @@ use commands::words;
 use commands::words::Kind;
 
 // Whether this process may write: it has the lock, another one has it, or it cannot be had. What is wrong is said.
-#[derive(Drop)]
+#[derive(Clone, Copy)]
 pub enum Taken {
     Held,
     Busy,
@@ -18,7 +18,7 @@ pub enum Taken {
 
 // Who stands first: this process; another one, whose line stands there; nobody, this process's line is missing; that is not known, since
 // the file is too large, or since it cannot be read.
-#[derive(Drop)]
+#[derive(Clone, Copy)]
 enum First {
     Own,
     Other(usize, usize),
@@ -156,7 +156,7 @@ fn seconds() -> i64 {
 }
 
 // How often the second has changed, and which it was last.
-#[derive(Drop)]
+#[derive(Clone, Copy)]
 struct Clock {
     second: i64,
     changes: u64,
@@ -194,7 +194,7 @@ fn is_first_again(own: &[u8], room: &mut [u8]) -> bool {
 }
 
 // How one look went: it is settled, or another one is due.
-#[derive(Drop)]
+#[derive(Clone, Copy)]
 enum Looked {
     Ended(Taken),
     Again(Clock),

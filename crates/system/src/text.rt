@@ -5,7 +5,7 @@ use commands::words;
 use commands::words::Kind;
 
 // Where a word stands in a text.
-#[derive(Drop)]
+#[derive(Clone, Copy)]
 pub struct Span {
     pub from: usize,
     pub end: usize,

@@ -54,7 +54,7 @@ fn before_and_after(record: &[u8], at: usize, block: &mut [u64], told: &mut [u64
 }
 
 // A call that changes a block's memory, with its numbers.
-#[derive(Drop)]
+#[derive(Clone, Copy)]
 enum Changing {
     Empty(u64),
     ReadFile,
@@ -235,7 +235,7 @@ pub fn read_pages_case(
 }
 
 // A call that reads a block's memory and writes bytes, with its numbers.
-#[derive(Drop)]
+#[derive(Clone, Copy)]
 enum Writing {
     SaveFile,
     Send(u64, u64),
