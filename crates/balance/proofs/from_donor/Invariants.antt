@@ -1,0 +1,18 @@
+-- `balance::from_donor` meets its contract. Assumes nothing.
+use Prim.Native.Nat.{◌-◌}
+use mathlib.Core.Path.{◌≡◌}
+use lib.ListN.{length}
+use Rattle.model.specs.Balance.{Oracle}
+use Rattle.selection.specs.Picked.{Sizes}
+use Rattle.mesh.specs.Parts.{part}
+use Rattle.balance.specs.Moves.{CellsCounted}
+use Rattle.balance.proofs.MovesLaws.{Giving}
+use Rattle.balance.proofs.from_donor.Given as goal
+
+abbrev pub invariant-loop-r : goal.invariant-loop-r
+invariant-loop-r l =
+    (length l.sizes ≡ length l.initial.sizes) × ((o : Oracle) → CellsCounted o l.mesh l.counts → Sizes o (part l.mesh l.d) l.initial.sizes → Giving l.viewers o l.mesh l.d l.sizes l.r)
+
+abbrev pub decreases-loop-r : goal.decreases-loop-r
+decreases-loop-r l =
+    l.k - l.r

@@ -1,0 +1,43 @@
+-- `inbox::message::read_tail` meets its contract: the part that is missing, or the outline of all three.
+-- Assumes nothing.
+use Rattle.model.specs.Messages.{part2, part3, part4}
+use Rattle.inbox.proofs.Outlining.{counted_missing, counted_there, tail_bad, no_second, no_third, no_fourth, tail_more, tail_read}
+use Rattle.inbox.proofs.message.read_tail.Goals as goal
+
+pub counted_part-requires : goal.counted_part-requires
+counted_part-requires c =
+    c.requires
+
+pub returns-in_default : goal.returns-in_default
+returns-in_default c =
+    let s = c.args.s.now in
+    let at = c.args.at in
+    λ fs z. tail_bad fs (no_second fs s at (counted_missing part2 c.in_default.is (c.counted_part.ensures fs z)))
+
+pub counted_part-requires-2 : goal.counted_part-requires-2
+counted_part-requires-2 c =
+    c.requires
+
+pub returns-in_default-counted_part : goal.returns-in_default-counted_part
+returns-in_default-counted_part c =
+    λ fs z. tail_bad fs (no_third fs _ (counted_there part2 c.in-Counted.is (c.counted_part.ensures fs z)) (counted_missing part3 c.in_default-counted_part.is (c.counted_part-2.ensures fs z)))
+
+pub counted_part-requires-3 : goal.counted_part-requires-3
+counted_part-requires-3 c =
+    c.requires
+
+pub returns-in_default-counted_part-2 : goal.returns-in_default-counted_part-2
+returns-in_default-counted_part-2 c =
+    λ fs z. tail_bad fs
+    (no_fourth fs _ (counted_there part2 c.in-Counted.is (c.counted_part.ensures fs z)) _ (counted_there part3 c.in-Counted-counted_part.is (c.counted_part-2.ensures fs z))
+    (counted_missing (part4 fs) c.in_default-counted_part-2.is (c.counted_part-3.ensures fs z)))
+
+pub returns-then-fourth-s : goal.returns-then-fourth-s
+returns-then-fourth-s c =
+    λ fs z. tail_more fs _ (counted_there part2 c.in-Counted.is (c.counted_part.ensures fs z)) _ (counted_there part3 c.in-Counted-counted_part.is (c.counted_part-2.ensures fs z))
+    _ (counted_there (part4 fs) c.in-Counted-counted_part-2.is (c.counted_part-3.ensures fs z)) c.if-fourth-s.true
+
+pub returns : goal.returns
+returns c =
+    λ fs z. tail_read fs _ (counted_there part2 c.in-Counted.is (c.counted_part.ensures fs z)) _ (counted_there part3 c.in-Counted-counted_part.is (c.counted_part-2.ensures fs z))
+    _ (counted_there (part4 fs) c.in-Counted-counted_part-2.is (c.counted_part-3.ensures fs z)) c.if-fourth-s.false

@@ -1,0 +1,10 @@
+-- `list_run::run` meets its contract: the part has n bytes.
+-- Assumes nothing.
+use mathlib.Core.Path.{sym}
+use lib.Seq.{length-take-le}
+use native.Mathlib.Omega.{arith}
+use Rattle.list_run.proofs.run.Goals as goal
+
+pub slice_bounds-list_all-end : goal.slice_bounds-list_all-end
+slice_bounds-list_all-end c =
+    sym (length-take-le c.args.n c.args.input.now (omega (arith, c.if-n-input.true)))

@@ -1,0 +1,14 @@
+-- `memory::header::clear` meets its contract. The loop's invariant: the words below `i` are zero.
+-- Assumes nothing.
+use Prim.Native.Nat.{◌-◌}
+use lib.ListN.{length}
+use Rattle.memory.proofs.Headers.{Cleared}
+use Rattle.memory.proofs.header.clear.Given as goal
+
+abbrev pub invariant-loop-i : goal.invariant-loop-i
+invariant-loop-i l =
+    Cleared l.initial.part l.part l.i
+
+abbrev pub decreases-loop-i : goal.decreases-loop-i
+decreases-loop-i l =
+    length l.part - l.i

@@ -1,0 +1,18 @@
+-- `readfile::raw::store_dart` meets its contract: a dart is stored if it could be read and its serial is above the last one.
+-- Assumes nothing.
+use mathlib.Core.Path.{sym, ◌∙◌}
+use Rattle.codec.proofs.DartReads.{dart_got, dart_lacks}
+use Rattle.readfile.proofs.Storing.{no_dart_stored, not_above, dart_stored}
+use Rattle.readfile.proofs.raw.store_dart.Goals as goal
+
+pub returns-in_default : goal.returns-in_default
+returns-in_default c =
+    no_dart_stored _ _ _ (dart_lacks (sym c.in_default.is ∙ c.read_dart.ensures))
+
+pub returns-then-serial-last : goal.returns-then-serial-last
+returns-then-serial-last c =
+    not_above _ _ _ (dart_got (sym c.in-Dart.is ∙ c.read_dart.ensures)) c.if-serial-last.true
+
+pub returns : goal.returns
+returns c =
+    dart_stored _ _ _ (dart_got (sym c.in-Dart.is ∙ c.read_dart.ensures)) c.if-serial-last.false c.put_record.ensures

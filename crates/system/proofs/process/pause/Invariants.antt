@@ -1,0 +1,11 @@
+-- `system::process::pause` meets its contract. The measure is how often it still yields. Assumes nothing.
+use Rattle.std.proofs.Common.{◌-◌, ◌≤◌}
+use Rattle.system.proofs.process.pause.Given as goal
+
+abbrev pub invariant-loop-i : goal.invariant-loop-i
+invariant-loop-i l =
+    l.i ≤ 1000
+
+abbrev pub decreases-loop-i : goal.decreases-loop-i
+decreases-loop-i l =
+    1000 - l.i

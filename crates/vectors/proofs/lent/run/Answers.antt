@@ -1,0 +1,6 @@
+use mathlib.Core.Path.{refl}
+use Rattle.vectors.proofs.lent.run.Goals as goal
+
+pub loop-left-init : goal.loop-left-init
+loop-left-init c =
+    refl

@@ -1,0 +1,8 @@
+-- `vectors::next_move_case` meets its contract. Assumes nothing.
+use mathlib.Core.Path.{sym}
+use lib.Seq.{length-take-le}
+use Rattle.vectors.proofs.next_move_case.Goals as goal
+
+pub slice_bounds-move_on-end-then-words-mesh : goal.slice_bounds-move_on-end-then-words-mesh
+slice_bounds-move_on-end-then-words-mesh c =
+    sym (length-take-le c.short-words.result c.args.mesh.now c.if-words-mesh.true)
