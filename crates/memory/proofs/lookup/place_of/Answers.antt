@@ -1,7 +1,7 @@
-use mathlib.Core.Logic.{⊎_elim}
 use Rattle.memory.proofs.Lookups.{place_found, place_none, halving_start, halving_up, halving_down, halving_end}
 use native.Mathlib.Omega.{arith}
 use Rattle.memory.proofs.lookup.place_of.Goals as goal
+use Rattle.memory.proofs.lookup.place_of.Goals.{then-field-serial, else-field-serial}
 
 pub returns-then-n-eq0 : goal.returns-then-n-eq0
 returns-then-n-eq0 c =
@@ -13,10 +13,10 @@ loop-left-init c =
 
 pub loop-left-preserved : goal.loop-left-preserved
 loop-left-preserved c =
-    ⊎_elim
-    (λ w. rw w.1 (halving_up c.requires.1 c.loop-left.invariant c.loop-left-test.true c.field.ensures (omega (arith, w.0.taken))))
-    (λ w. rw w.1 (halving_down c.requires.1 c.loop-left.invariant c.loop-left-test.true c.field.ensures (omega (arith, w.0.left))))
-    c.if-field-serial.branch
+    elim c.if-field-serial.branch [
+      | then-field-serial w ↦ rw w.low-is (halving_up c.requires.1 c.loop-left.invariant c.loop-left-test.true c.field.ensures w.if-field-serial.true)
+      | else-field-serial w ↦ rw w.low-is (halving_down c.requires.1 c.loop-left.invariant c.loop-left-test.true c.field.ensures w.if-field-serial.false)
+    ]
 
 pub returns-then-field-serial-2 : goal.returns-then-field-serial-2
 returns-then-field-serial-2 c =
