@@ -1,5 +1,2 @@
 pub mod Heads
-pub mod Held
-pub mod Next
-pub mod Kept
-pub mod At
+pub mod Moved
