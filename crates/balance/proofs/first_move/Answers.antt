@@ -1,6 +1,5 @@
 use Prim.Native.Nat.{◌-◌}
 use mathlib.Core.Path.{refl, sym, ◌∙◌}
-use borrow.Author.Tests.{not-true, not-false}
 use Rattle.oracle.specs.Oracle.{oracle_of}
 use Rattle.balance.proofs.Searches.{searching_start, searching_skip, searching_none}
 use Rattle.balance.proofs.MovesLaws.{least_small, donor_told, donor_found, donor_none, donor_end}
@@ -37,7 +36,7 @@ loop-d-preserved-then-not-gives c =
     let mesh = c.args.mesh.now in (
       c.loop-d.invariant.0,
       searching_skip c.loop-d.invariant.1 c.loop-d-test.true
-          (sym (donor_told c.args.viewers (oracle_of o) mesh c.requires.1 c.requires.2 c.loop-d.d c.loop-d-test.true c.gives.ensures) ∙ not-true _ c.if-not-gives.true),
+          (sym (donor_told c.args.viewers (oracle_of o) mesh c.requires.1 c.requires.2 c.loop-d.d c.loop-d-test.true c.gives.ensures) ∙ c.if-not-gives.true),
     )
 
 pub from_donor-requires : goal.from_donor-requires
@@ -66,7 +65,7 @@ returns-in-loop-d c =
     let o = c.args.o in
     let mesh = c.args.mesh.now in
     donor_found c.args.viewers (oracle_of o) mesh c.requires.1 c.requires.2 c.loop-d.invariant.1 c.loop-d-test.true
-    (sym (donor_told c.args.viewers (oracle_of o) mesh c.requires.1 c.requires.2 c.loop-d.d c.loop-d-test.true c.gives.ensures) ∙ not-false _ c.if-not-gives.false)
+    (sym (donor_told c.args.viewers (oracle_of o) mesh c.requires.1 c.requires.2 c.loop-d.d c.loop-d-test.true c.gives.ensures) ∙ c.if-not-gives.false)
     c.from_donor.ensures c.in-Move.is
 
 pub shape_of-sizes : goal.shape_of-sizes

@@ -1,6 +1,5 @@
 use Prim.Native.Nat.{◌-◌}
 use mathlib.Core.Path.{refl, sym, ◌∙◌}
-use borrow.Author.Tests.{not-true, not-false}
 use Rattle.oracle.specs.Oracle.{oracle_of}
 use Rattle.balance.proofs.MovesLaws.{giving_start, giving_skip, giving_none, giving_found, giving_end, counted_small, gives_told, blocks_apart}
 use native.Mathlib.Omega.{arith}
@@ -48,7 +47,7 @@ loop-r-preserved-then-not-gives c =
     let mesh = c.args.mesh.now in (
       c.loop-r.invariant.0,
       λ o n z. giving_skip (c.loop-r.invariant.1 o n z) c.loop-r-test.true
-          (sym (gives_told o mesh n d c.loop-r.r c.requires.sound_parts.1 c.loop-r-test.true c.gives.ensures) ∙ not-true _ c.if-not-gives.true),
+          (sym (gives_told o mesh n d c.loop-r.r c.requires.sound_parts.1 c.loop-r-test.true c.gives.ensures) ∙ c.if-not-gives.true),
     )
 
 pub between-requires : goal.between-requires
@@ -66,7 +65,7 @@ loop-r-preserved c =
     let mesh = c.args.mesh.now in (
       omega (arith, c.between.kept, c.loop-r.invariant.0),
       λ o n z. giving_none (c.loop-r.invariant.1 o n z) c.loop-r-test.true c.requires.sound_parts.0 c.requires.sound_parts.1
-          (blocks_apart o mesh d c.loop-r.r (sym (gives_told o mesh n d c.loop-r.r c.requires.sound_parts.1 c.loop-r-test.true c.gives.ensures) ∙ not-false _ c.if-not-gives.false))
+          (blocks_apart o mesh d c.loop-r.r (sym (gives_told o mesh n d c.loop-r.r c.requires.sound_parts.1 c.loop-r-test.true c.gives.ensures) ∙ c.if-not-gives.false))
           c.between.ensures.candidate c.in_default.is c.between.ensures.untried,
     )
 
@@ -83,7 +82,7 @@ returns-in-loop-r c =
     let o = c.args.o in
     let d = c.args.d in
     let mesh = c.args.mesh.now in
-    let gives = sym (gives_told (oracle_of o) mesh c.requires.cells_counted d c.loop-r.r c.requires.sound_parts.1 c.loop-r-test.true c.gives.ensures) ∙ not-false _ c.if-not-gives.false in
+    let gives = sym (gives_told (oracle_of o) mesh c.requires.cells_counted d c.loop-r.r c.requires.sound_parts.1 c.loop-r-test.true c.gives.ensures) ∙ c.if-not-gives.false in
     giving_found (c.loop-r.invariant.1 (oracle_of o) c.requires.cells_counted c.sizes_at.ensures) c.loop-r-test.true c.requires.sound_parts.0 c.requires.sound_parts.1
     (blocks_apart (oracle_of o) mesh d c.loop-r.r gives) c.between.ensures.candidate c.in-Volume.is gives
 

@@ -1,4 +1,3 @@
-use borrow.Author.Tests.{not-true, not-false}
 use Rattle.std.proofs.Common.{◌-◌, sym, ◌∙◌, arith}
 use Rattle.decimal.proofs.Texts.{reading_start, reading_on, reading_stop, reading_end}
 use Rattle.decimal.proofs.digits_in.Goals as goal
@@ -9,11 +8,11 @@ loop-i-init c =
 
 pub returns-then-not-is_digit : goal.returns-then-not-is_digit
 returns-then-not-is_digit c =
-    reading_stop c.loop-i.invariant (omega arith) (sym c.is_digit.ensures ∙ not-true _ c.if-not-is_digit.true)
+    reading_stop c.loop-i.invariant (omega arith) (sym c.is_digit.ensures ∙ c.if-not-is_digit.true)
 
 pub digit-requires : goal.digit-requires
 digit-requires c =
-    sym c.is_digit.ensures ∙ not-false _ c.if-not-is_digit.false
+    sym c.is_digit.ensures ∙ c.if-not-is_digit.false
 
 pub joined-value-requires : goal.joined-value-requires
 joined-value-requires c =
@@ -25,7 +24,7 @@ loop-i-smaller c =
 
 pub loop-i-preserved : goal.loop-i-preserved
 loop-i-preserved c =
-    reading_on c.loop-i.invariant (omega arith) (sym c.is_digit.ensures ∙ not-false _ c.if-not-is_digit.false) c.digit.ensures.0 c.joined-value.ensures
+    reading_on c.loop-i.invariant (omega arith) (sym c.is_digit.ensures ∙ c.if-not-is_digit.false) c.digit.ensures.0 c.joined-value.ensures
 
 pub returns : goal.returns
 returns c =

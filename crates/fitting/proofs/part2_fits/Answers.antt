@@ -1,6 +1,5 @@
 -- `fitting::part2_fits` meets its contract.
 -- Assumes nothing.
-use borrow.Author.Tests.{not-true, not-false}
 use Rattle.fitting.proofs.LabelLaws.{few_entries, beside, sewable_at, same_no, part2_done}
 use native.Mathlib.Omega.{arith}
 use Rattle.fitting.proofs.part2_fits.Goals as goal
@@ -30,7 +29,7 @@ shape_of-rows-then-not-rank_codes c =
 
 pub returns-then-not-rank_codes : goal.returns-then-not-rank_codes
 returns-then-not-rank_codes c =
-    same_no c.rank_codes.ensures (not-true _ c.if-not-rank_codes.true)
+    same_no c.rank_codes.ensures c.if-not-rank_codes.true
 
 pub bounds-block-2 : goal.bounds-block-2
 bounds-block-2 c =
@@ -46,7 +45,7 @@ locate-requires c =
       few_entries c.requires.part2ready.0,
       omega (arith, c.requires.part2ready.1, of-arrays.3),
       c.requires.by_index.0,
-      c.rank_codes.ensures.ranked (not-false _ c.if-not-rank_codes.false),
+      c.rank_codes.ensures.ranked c.if-not-rank_codes.false,
     )
 
 pub part2_right-requires : goal.part2_right-requires
@@ -88,4 +87,4 @@ shape_of-seen c =
 
 pub returns : goal.returns
 returns c =
-    part2_done c.rank_codes.ensures (not-false _ c.if-not-rank_codes.false) c.locate.ensures c.part2_right.ensures
+    part2_done c.rank_codes.ensures c.if-not-rank_codes.false c.locate.ensures c.part2_right.ensures

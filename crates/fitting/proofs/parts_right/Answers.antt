@@ -1,6 +1,5 @@
 -- `fitting::parts_right` meets its contract.
 -- Assumes nothing.
-use borrow.Author.Tests.{not-true, not-false}
 use Rattle.fitting.proofs.Outlined.{told_of, arrives}
 use Rattle.fitting.proofs.Fitted.{critical_no, ready, few_second, parted}
 use native.Mathlib.Omega.{arith}
@@ -78,7 +77,7 @@ shape_of-marks-then-not-critical_right c =
 pub returns-then-not-critical_right : goal.returns-then-not-critical_right
 returns-then-not-critical_right c =
     let start : tie.Start = (search) in
-    λ v x n. critical_no start.pre.0.0 n c.critical_right.ensures (not-true _ c.if-not-critical_right.true)
+    λ v x n. critical_no start.pre.0.0 n c.critical_right.ensures c.if-not-critical_right.true
 
 pub part2_fits-requires : goal.part2_fits-requires
 part2_fits-requires c =
@@ -86,12 +85,12 @@ part2_fits-requires c =
     let of-arrays = start.pre.1.1.0 in
     let ready_made = start.pre.1.1.1 in
     let new = start.pre.1.0.2 in
-    let few = few_second start.pre.0.0 new c.critical_right.ensures (not-false _ c.if-not-critical_right.false)
+    let few = few_second start.pre.0.0 new c.critical_right.ensures c.if-not-critical_right.false
     (omega (arith, c.critical_right.kept, of-arrays.0)) (omega (arith, c.critical_right.kept, of-arrays.1)) start.pre.0.2 start.pre.0.3
     start.pre.0.6 in
     record {
       part2ready = (
-        ready start.pre.0.0 new c.critical_right.ensures (not-false _ c.if-not-critical_right.false) (omega (arith, c.critical_right.kept, of-arrays.0))
+        ready start.pre.0.0 new c.critical_right.ensures c.if-not-critical_right.false (omega (arith, c.critical_right.kept, of-arrays.0))
             (omega (arith, c.critical_right.kept, of-arrays.1)) start.pre.0.2 start.pre.0.3 start.pre.0.6,
         few,
         omega (arith, c.critical_right.kept, start.pre.0.7),
@@ -165,6 +164,6 @@ returns c =
     let start : tie.Start =
     (search) in
     let of-arrays = start.pre.1.1.0 in
-    λ v x n. parted start.pre.0.0 n c.critical_right.ensures (not-false _ c.if-not-critical_right.false)
+    λ v x n. parted start.pre.0.0 n c.critical_right.ensures c.if-not-critical_right.false
     (omega (arith, c.critical_right.kept, of-arrays.0)) (omega (arith, c.critical_right.kept, of-arrays.1)) start.pre.0.2 start.pre.0.3
     start.pre.0.6 c.part2_fits.ensures

@@ -1,6 +1,5 @@
 use Prim.Native.Nat.{◌-◌}
 use mathlib.Core.Path.{◌∙◌}
-use borrow.Author.Tests.{not-true, not-false}
 use Rattle.sound.proofs.Passes.{going_none, going_no, going_more, going_end}
 use Rattle.mesh.proofs.Parts.{sound_test, sound_is}
 use Rattle.mesh.proofs.all_sound.Goals as goal
@@ -11,11 +10,11 @@ loop-i-init c =
 
 pub returns-then-not-sound_at : goal.returns-then-not-sound_at
 returns-then-not-sound_at c =
-    going_no c.loop-i.invariant c.loop-i-test.true c.sound_at.ensures (not-true _ c.if-not-sound_at.true) ∙ sound_is _ _
+    going_no c.loop-i.invariant c.loop-i-test.true c.sound_at.ensures c.if-not-sound_at.true ∙ sound_is _ _
 
 pub loop-i-preserved : goal.loop-i-preserved
 loop-i-preserved c =
-    going_more c.loop-i.invariant c.loop-i-test.true c.sound_at.ensures (not-false _ c.if-not-sound_at.false)
+    going_more c.loop-i.invariant c.loop-i-test.true c.sound_at.ensures c.if-not-sound_at.false
 
 pub returns : goal.returns
 returns c =

@@ -2,7 +2,6 @@ use mathlib.Core.Path.{refl, ◌∙◌}
 use native.Mathlib.Numerals.{add-one}
 use Prim.Native.Nat.{◌-◌}
 use lib.ListN.{length-set}
-use borrow.Author.Tests.{not-true, not-false}
 use Rattle.sound.proofs.Passes.{passing_none, test_no, mark_no, passing_more, passing_end, as_darts, place_no, kind_is, next_below}
 use native.Mathlib.Omega.{arith}
 use Rattle.sound.proofs.darts_right.Goals as goal
@@ -17,7 +16,7 @@ shape_of-seen-then-not-place_at c =
 
 pub returns-then-not-place_at : goal.returns-then-not-place_at
 returns-then-not-place_at c =
-    as_darts (test_no c.loop-i.invariant.0 c.loop-i-test.true (place_no _ _ _ c.place_at.ensures c.loop-i.invariant.1 (not-true _ c.if-not-place_at.true)) refl)
+    as_darts (test_no c.loop-i.invariant.0 c.loop-i-test.true (place_no _ _ _ c.place_at.ensures c.loop-i.invariant.1 c.if-not-place_at.true) refl)
 
 pub shape_of-seen-then-not-kind_right : goal.shape_of-seen-then-not-kind_right
 shape_of-seen-then-not-kind_right c =
@@ -27,15 +26,15 @@ pub returns-then-not-kind_right : goal.returns-then-not-kind_right
 returns-then-not-kind_right c =
     as_darts
     (test_no c.loop-i.invariant.0 c.loop-i-test.true
-    (kind_is _ _ _ c.place_at.ensures c.loop-i.invariant.1 (not-false _ c.if-not-place_at.false) c.kind_right.ensures c.field-k.ensures c.field-l.ensures
-    c.loop-i.invariant.2 c.loop-i.invariant.3) (not-true _ c.if-not-kind_right.true))
+    (kind_is _ _ _ c.place_at.ensures c.loop-i.invariant.1 c.if-not-place_at.false c.kind_right.ensures c.field-k.ensures c.field-l.ensures
+    c.loop-i.invariant.2 c.loop-i.invariant.3) c.if-not-kind_right.true)
 
 pub bounds-seen-a : goal.bounds-seen-a
 bounds-seen-a c =
     let dart =
-    kind_is _ _ _ c.place_at.ensures c.loop-i.invariant.1 (not-false _ c.if-not-place_at.false) c.kind_right.ensures c.field-k.ensures c.field-l.ensures
+    kind_is _ _ _ c.place_at.ensures c.loop-i.invariant.1 c.if-not-place_at.false c.kind_right.ensures c.field-k.ensures c.field-l.ensures
     c.loop-i.invariant.2 c.loop-i.invariant.3 in
-    let lt = next_below _ _ _ dart (not-false _ c.if-not-kind_right.false) in
+    let lt = next_below _ _ _ dart c.if-not-kind_right.false in
     omega (arith, lt, c.field-a.ensures, c.loop-i.invariant.0.marks.len)
 
 pub shape_of-seen-then-seen-a-ne0 : goal.shape_of-seen-then-seen-a-ne0
@@ -49,18 +48,18 @@ returns-then-seen-a-ne0 c =
 pub bounds-seen-a-in-loop-i : goal.bounds-seen-a-in-loop-i
 bounds-seen-a-in-loop-i c =
     let dart =
-    kind_is _ _ _ c.place_at.ensures c.loop-i.invariant.1 (not-false _ c.if-not-place_at.false) c.kind_right.ensures c.field-k.ensures c.field-l.ensures
+    kind_is _ _ _ c.place_at.ensures c.loop-i.invariant.1 c.if-not-place_at.false c.kind_right.ensures c.field-k.ensures c.field-l.ensures
     c.loop-i.invariant.2 c.loop-i.invariant.3 in
-    let lt = next_below _ _ _ dart (not-false _ c.if-not-kind_right.false) in
+    let lt = next_below _ _ _ dart c.if-not-kind_right.false in
     omega (arith, lt, c.field-a.ensures, c.loop-i.invariant.0.marks.len)
 
 pub loop-i-preserved : goal.loop-i-preserved
 loop-i-preserved c =
     let dart =
-    kind_is _ _ _ c.place_at.ensures c.loop-i.invariant.1 (not-false _ c.if-not-place_at.false) c.kind_right.ensures c.field-k.ensures c.field-l.ensures
+    kind_is _ _ _ c.place_at.ensures c.loop-i.invariant.1 c.if-not-place_at.false c.kind_right.ensures c.field-k.ensures c.field-l.ensures
     c.loop-i.invariant.2 c.loop-i.invariant.3 in
-    let lt = next_below _ _ _ dart (not-false _ c.if-not-kind_right.false) in (
-      passing_more c.loop-i.invariant.0 c.loop-i-test.true dart (not-false _ c.if-not-kind_right.false) lt c.field-a.ensures c.if-seen-a-ne0.false,
+    let lt = next_below _ _ _ dart c.if-not-kind_right.false in (
+      passing_more c.loop-i.invariant.0 c.loop-i-test.true dart c.if-not-kind_right.false lt c.field-a.ensures c.if-seen-a-ne0.false,
       rw add-one c.field-last.ensures,
       c.loop-i.invariant.2,
       c.loop-i.invariant.3,

@@ -1,7 +1,6 @@
 use mathlib.Core.Path.{refl, sym}
 use native.Mathlib.Omega.{arith}
 use Prim.Native.Nat.{◌-◌}
-use borrow.Author.Tests.{not-true, not-false}
 use Rattle.sound.proofs.Passes.{going_none, going_no, going_more, going_end, gather_none, gather_more, gather_end}
 use Rattle.sound.proofs.far_right.Goals as goal
 
@@ -15,11 +14,11 @@ shape_of-keys-then-not-far_at c =
 
 pub returns-then-not-far_at : goal.returns-then-not-far_at
 returns-then-not-far_at c =
-    sym (going_no c.loop-i.invariant.0 c.loop-i-test.true c.far_at.ensures (not-true _ c.if-not-far_at.true))
+    sym (going_no c.loop-i.invariant.0 c.loop-i-test.true c.far_at.ensures c.if-not-far_at.true)
 
 pub loop-i-preserved : goal.loop-i-preserved
 loop-i-preserved c = (
-  going_more c.loop-i.invariant.0 c.loop-i-test.true c.far_at.ensures (not-false _ c.if-not-far_at.false),
+  going_more c.loop-i.invariant.0 c.loop-i-test.true c.far_at.ensures c.if-not-far_at.false,
   gather_more c.loop-i.invariant.1 c.loop-i-test.true c.put_label-c.ensures,
   omega (arith, c.put_label-c.kept, c.loop-i.invariant.2),
 )

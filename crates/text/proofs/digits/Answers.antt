@@ -1,6 +1,5 @@
 use mathlib.Core.Path.{refl, sym, ◌∙◌}
 use Prim.Native.Nat.{◌-◌}
-use borrow.Author.Tests.{not-true, not-false}
 use Rattle.text.proofs.Readings.{digits_none, digits_more, too_large}
 use native.Mathlib.Omega.{arith}
 use Rattle.text.proofs.digits.Goals as goal
@@ -11,7 +10,7 @@ loop-i-init c =
 
 pub returns-then-not-is_digit : goal.returns-then-not-is_digit
 returns-then-not-is_digit c =
-    record { count = _; within = c.loop-i.invariant.0; past_is = refl; digits = c.loop-i.invariant.1; ended = λ h. sym c.is_digit.ensures ∙ not-true _ c.if-not-is_digit.true }
+    record { count = _; within = c.loop-i.invariant.0; past_is = refl; digits = c.loop-i.invariant.1; ended = λ h. sym c.is_digit.ensures ∙ c.if-not-is_digit.true }
 
 pub overflow_mul-w : goal.overflow_mul-w
 overflow_mul-w c =
@@ -19,7 +18,7 @@ overflow_mul-w c =
 
 pub digit-requires : goal.digit-requires
 digit-requires c =
-    sym c.is_digit.ensures ∙ not-false _ c.if-not-is_digit.false
+    sym c.is_digit.ensures ∙ c.if-not-is_digit.false
 
 pub overflow_add-w : goal.overflow_add-w
 overflow_add-w c =
@@ -27,12 +26,12 @@ overflow_add-w c =
 
 pub returns-then-w-ge-NUMBERS : goal.returns-then-w-ge-NUMBERS
 returns-then-w-ge-NUMBERS c =
-    too_large c.loop-i.invariant.1 c.loop-i-test.true c.requires (sym c.is_digit.ensures ∙ not-false _ c.if-not-is_digit.false) (omega (arith, c.digit.ensures.0, c.if-w-ge-NUMBERS.true))
+    too_large c.loop-i.invariant.1 c.loop-i-test.true c.requires (sym c.is_digit.ensures ∙ c.if-not-is_digit.false) (omega (arith, c.digit.ensures.0, c.if-w-ge-NUMBERS.true))
 
 pub loop-i-preserved : goal.loop-i-preserved
 loop-i-preserved c = (
   omega arith,
-  digits_more c.loop-i.invariant.1 (omega (arith, c.requires, c.loop-i-test.true)) (sym c.is_digit.ensures ∙ not-false _ c.if-not-is_digit.false) (omega (arith, c.digit.ensures.0)) (omega (arith, c.if-w-ge-NUMBERS.false)),
+  digits_more c.loop-i.invariant.1 (omega (arith, c.requires, c.loop-i-test.true)) (sym c.is_digit.ensures ∙ c.if-not-is_digit.false) (omega (arith, c.digit.ensures.0)) (omega (arith, c.if-w-ge-NUMBERS.false)),
 )
 
 pub returns : goal.returns

@@ -1,5 +1,4 @@
 use Prim.Native.Nat.{◌-◌}
-use borrow.Author.Tests.{not-true, not-false}
 use mathlib.Core.Path.{sym, ◌∙◌}
 use Rattle.arrival.specs.Sides.{order_at}
 use Rattle.arrival.proofs.Steps.{passing_none, passing_more, passing_all, passing_not}
@@ -19,11 +18,11 @@ returns-then-not-order_at c =
     let serial = c.args.serial.now in
     let starts = c.args.starts.now in
     let k = c.args.k in
-    passing_not (order_at serial starts) c.loop-i.i k (omega arith) (sym c.order_at.ensures ∙ not-true _ c.if-not-order_at.true)
+    passing_not (order_at serial starts) c.loop-i.i k (omega arith) (sym c.order_at.ensures ∙ c.if-not-order_at.true)
 
 pub loop-i-preserved : goal.loop-i-preserved
 loop-i-preserved c =
-    passing_more c.loop-i.invariant (sym c.order_at.ensures ∙ not-false _ c.if-not-order_at.false)
+    passing_more c.loop-i.invariant (sym c.order_at.ensures ∙ c.if-not-order_at.false)
 
 pub returns : goal.returns
 returns c =

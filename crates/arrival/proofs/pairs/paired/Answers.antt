@@ -1,7 +1,6 @@
 -- `arrival::pairs::paired` meets its contract.
 -- Assumes nothing.
 use mathlib.Core.Path.{sym, ◌∙◌}
-use borrow.Author.Tests.{not-true, not-false}
 use Rattle.arrival.proofs.EdgeLaws.{ranked_apart}
 use Rattle.arrival.proofs.Steps.{paired_ends, paired_twice, paired_found, pair_fits}
 use native.Mathlib.Omega.{arith}
@@ -13,7 +12,7 @@ returns-then-not-put_pairs c =
     let starts = c.args.starts.now in
     let sizes = c.args.sizes.now in
     let k = c.args.k in
-    paired_ends vertex starts sizes k (sym c.put_pairs.ensures.0 ∙ not-true _ c.if-not-put_pairs.true)
+    paired_ends vertex starts sizes k (sym c.put_pairs.ensures.0 ∙ c.if-not-put_pairs.true)
 
 pub rank-requires : goal.rank-requires
 rank-requires c =
@@ -39,11 +38,11 @@ returns-then-not-rank c =
     let sizes = c.args.sizes.now in
     let k = c.args.k in
     paired_twice vertex starts sizes k c.requires.segments.0 c.requires.segments.1 c.put_pairs.last.1.1.1.1.0
-    c.put_pairs.ensures.1 (sym c.rank.ensures.answer ∙ not-true _ c.if-not-rank.true)
+    c.put_pairs.ensures.1 (sym c.rank.ensures.answer ∙ c.if-not-rank.true)
 
 pub edges-requires : goal.edges-requires
 edges-requires c =
-    let w = c.rank.ensures.ranked (not-false _ c.if-not-rank.false) in
+    let w = c.rank.ensures.ranked c.if-not-rank.false in
     record { k_in_bounds = (omega (arith, c.rank.kept, c.requires.k_in_bounds_2.1), λ p h. omega (arith, w.index_below p h, c.requires.k_in_bounds.3), w.ascends); by_index = ranked_apart w }
 
 pub returns : goal.returns
@@ -54,5 +53,5 @@ returns c =
     let sizes = start.args.sizes.now in
     let k = start.args.k in
     paired_found vertex starts sizes k start.pre.1.1.0 start.pre.1.1.1 c.put_pairs.last.1.1.1.1.0
-    c.put_pairs.ensures.1 (sym c.put_pairs.ensures.0 ∙ not-false _ c.if-not-put_pairs.false) (sym c.rank.ensures.answer ∙ not-false _ c.if-not-rank.false)
-    (c.rank.ensures.ranked (not-false _ c.if-not-rank.false)) c.edges.ensures
+    c.put_pairs.ensures.1 (sym c.put_pairs.ensures.0 ∙ c.if-not-put_pairs.false) (sym c.rank.ensures.answer ∙ c.if-not-rank.false)
+    (c.rank.ensures.ranked c.if-not-rank.false) c.edges.ensures

@@ -1,6 +1,5 @@
 use Prim.Native.Nat.{◌+◌, ◌*◌, ◌-◌}
 use mathlib.Core.Path.{sym, ◌∙◌}
-use borrow.Author.Tests.{not-true, not-false}
 use Rattle.model.specs.Values.{finite}
 use Rattle.inbox.specs.Inbox.{point_in}
 use Rattle.arrival.proofs.Steps.{passing_none, passing_more, passing_all, passing_not}
@@ -18,11 +17,11 @@ returns-then-not-point_finite c =
     let from = c.args.from in
     let count = c.args.count in
     passing_not (λ i. finite (point_in message (from + 24 * i))) c.loop-j.j count (omega arith)
-    (sym c.point_finite.ensures ∙ not-true _ c.if-not-point_finite.true) ∙ sym (points_tested message from count)
+    (sym c.point_finite.ensures ∙ c.if-not-point_finite.true) ∙ sym (points_tested message from count)
 
 pub loop-j-preserved : goal.loop-j-preserved
 loop-j-preserved c =
-    passing_more c.loop-j.invariant (sym c.point_finite.ensures ∙ not-false _ c.if-not-point_finite.false)
+    passing_more c.loop-j.invariant (sym c.point_finite.ensures ∙ c.if-not-point_finite.false)
 
 pub returns : goal.returns
 returns c =

@@ -3,7 +3,6 @@ use mathlib.Core.Bool.{true}
 use mathlib.Core.List.{◌∷◌}
 use Prim.Native.Nat.{ℕ, ◌-◌}
 use lib.ListN.{length, get_or, length-replicate}
-use borrow.Author.Tests.{not-true, not-false}
 use Rattle.model.specs.Lists.{distinct}
 use Rattle.model.specs.Image.{column}
 use Rattle.cells.specs.Places.{ends_of}
@@ -44,7 +43,7 @@ shape_of-colours-then-not-ends_differ c =
 
 pub returns-then-not-ends_differ : goal.returns-then-not-ends_differ
 returns-then-not-ends_differ c =
-    ends_not _ _ _ _ _ c.loop-a.a c.loop-a-test.true (sym c.ends_differ.ensures.differ ∙ not-true _ c.if-not-ends_differ.true)
+    ends_not _ _ _ _ _ c.loop-a.a c.loop-a-test.true (sym c.ends_differ.ensures.differ ∙ c.if-not-ends_differ.true)
 
 pub overflow_add-a : goal.overflow_add-a
 overflow_add-a c =
@@ -63,7 +62,7 @@ loop-a-preserved c =
       c.ends_differ.ensures.size ∙ c.loop-a.invariant.1,
       c.ends_differ.ensures.bound,
       true_more (λ k. distinct (k ∷ ends_of (column block 1) (column block 2) numbers (get_or firsts k 0))) c.loop-a.a c.loop-a.invariant.3
-          (sym c.ends_differ.ensures.differ ∙ not-false _ c.if-not-ends_differ.false),
+          (sym c.ends_differ.ensures.differ ∙ c.if-not-ends_differ.false),
     )
 
 pub shape_of-colours : goal.shape_of-colours

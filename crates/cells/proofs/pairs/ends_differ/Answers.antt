@@ -1,7 +1,6 @@
 use mathlib.Core.Path.{refl, sym, ap, ◌∙◌}
 use Prim.Native.Nat.{ℕ, ◌-◌, ◌<◌}
 use lib.ListN.{length, get_or, length-set}
-use borrow.Author.Tests.{not-true, not-false}
 use Rattle.model.specs.Cells.{ring}
 use Rattle.cells.proofs.Paths.{round, going_start, going_next}
 use Rattle.cells.proofs.RingLaws.{step_within, step_apart}
@@ -73,7 +72,7 @@ returns-then-not-give_colour c =
     let small : get_or numbers c.field-q.result 0 < length c.give_colour.last.0 =
     omega (arith, e, ap length c.give_colour.ensures.coloured ∙ length-set colours _ _, (c.requires.by_index _ (going_in r c.loop-n.invariant.going)).1) in
     let s = coloured_next c.loop-n.invariant.coloured small c.give_colour-in-loop-n.ensures.coloured in
-    record { differ = ending_twice w r c.loop-n.invariant e small (sym c.give_colour-in-loop-n.ensures.fresh ∙ not-true _ c.if-not-give_colour.true); bound = s.bound; size = s.size ∙ ap length c.give_colour.ensures.coloured ∙ length-set colours _ _ }
+    record { differ = ending_twice w r c.loop-n.invariant e small (sym c.give_colour-in-loop-n.ensures.fresh ∙ c.if-not-give_colour.true); bound = s.bound; size = s.size ∙ ap length c.give_colour.ensures.coloured ∙ length-set colours _ _ }
 
 pub overflow_add-steps : goal.overflow_add-steps
 overflow_add-steps c =
@@ -102,7 +101,7 @@ returns-then-p-first c =
     let small : get_or numbers c.field-q.result 0 < length c.give_colour.last.0 =
     omega (arith, e, ap length c.give_colour.ensures.coloured ∙ length-set colours _ _, (c.requires.by_index _ (going_in r c.loop-n.invariant.going)).1) in
     let s = coloured_next c.loop-n.invariant.coloured small c.give_colour-in-loop-n.ensures.coloured in
-    record { differ = ending_all w r c.loop-n.invariant e small (sym c.give_colour-in-loop-n.ensures.fresh ∙ not-false _ c.if-not-give_colour.false) c.ring_step-p.ensures c.if-p-first.true; bound = s.bound; size = s.size ∙ ap length c.give_colour.ensures.coloured ∙ length-set colours _ _ }
+    record { differ = ending_all w r c.loop-n.invariant e small (sym c.give_colour-in-loop-n.ensures.fresh ∙ c.if-not-give_colour.false) c.ring_step-p.ensures c.if-p-first.true; bound = s.bound; size = s.size ∙ ap length c.give_colour.ensures.coloured ∙ length-set colours _ _ }
 
 pub loop-n-smaller : goal.loop-n-smaller
 loop-n-smaller c =
@@ -119,5 +118,5 @@ loop-n-preserved c =
     let e = ap (λ (z : ℕ). get_or numbers z 0) c.field-q.ensures in
     let small : get_or numbers c.field-q.result 0 < length c.give_colour.last.0 =
     omega (arith, e, ap length c.give_colour.ensures.coloured ∙ length-set colours _ _, (c.requires.by_index _ (going_in r c.loop-n.invariant.going)).1) in
-    ending_more w r c.loop-n.invariant e small (sym c.give_colour-in-loop-n.ensures.fresh ∙ not-false _ c.if-not-give_colour.false) c.give_colour-in-loop-n.ensures.coloured
+    ending_more w r c.loop-n.invariant e small (sym c.give_colour-in-loop-n.ensures.fresh ∙ c.if-not-give_colour.false) c.give_colour-in-loop-n.ensures.coloured
     (going_next w r c.loop-n.invariant.going c.ring_step-p.ensures c.if-p-first.false)

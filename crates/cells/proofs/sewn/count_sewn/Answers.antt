@@ -1,6 +1,5 @@
 use mathlib.Core.Path.{refl, sym, ap, ◌∙◌}
 use Prim.Native.Nat.{◌-◌}
-use borrow.Author.Tests.{not-true, not-false}
 use Rattle.model.specs.Cells.{faces, start_of}
 use Rattle.model.specs.Image.{column}
 use Rattle.cells.specs.Places.{marked, sewn_out}
@@ -83,7 +82,7 @@ loop-f-preserved-then-not-sewn_away c =
       omega (arith, c.loop-f.invariant.1),
       count_skip (λ l. sewn_out block marks (start_of l)) (faces (column block 1) (marked n marks)) c.loop-f.f _ c.loop-f.invariant.2
           (omega (arith, c.loop-f-test.true, c.requires.2.count_is))
-          (sym (c.sewn_away.ensures ∙ ap (sewn_out block marks) at) ∙ not-true _ c.if-not-sewn_away.true),
+          (sym (c.sewn_away.ensures ∙ ap (sewn_out block marks) at) ∙ c.if-not-sewn_away.true),
     )
 
 pub overflow_add-sewn : goal.overflow_add-sewn
@@ -108,7 +107,7 @@ loop-f-preserved c =
       omega (arith, c.loop-f.invariant.1),
       count_one (λ l. sewn_out block marks (start_of l)) (faces (column block 1) (marked n marks)) c.loop-f.f _ c.loop-f.invariant.2
           (omega (arith, c.loop-f-test.true, c.requires.2.count_is))
-          (sym (c.sewn_away.ensures ∙ ap (sewn_out block marks) at) ∙ not-false _ c.if-not-sewn_away.false),
+          (sym (c.sewn_away.ensures ∙ ap (sewn_out block marks) at) ∙ c.if-not-sewn_away.false),
     )
 
 pub returns : goal.returns

@@ -1,7 +1,7 @@
 -- `cells::sewn::sewn_away` meets its contract, arm by arm. Assumes nothing.
 use Prim.Native.Nat.{ℕ, ◌%◌}
 use mathlib.Core.Path.{sym, ap, ◌∙◌}
-use borrow.Author.Tests.{eqb-true, not-true, not-false}
+use borrow.Author.Tests.{eqb-true}
 use Rattle.cells.proofs.SewnLaws.{not_sewn}
 use Rattle.cells.proofs.StartLaws.{sewn_away}
 use native.Mathlib.Omega.{arith}
@@ -9,11 +9,11 @@ use Rattle.cells.proofs.sewn.sewn_away.Goals as goal
 
 pub returns-then-not-is_sewn : goal.returns-then-not-is_sewn
 returns-then-not-is_sewn c =
-    not_sewn _ _ _ c.field.ensures (sym c.is_sewn.ensures ∙ not-true _ c.if-not-is_sewn.true)
+    not_sewn _ _ _ c.field.ensures (sym c.is_sewn.ensures ∙ c.if-not-is_sewn.true)
 
 pub bounds-marks-q : goal.bounds-marks-q
 bounds-marks-q c =
-    let is_sewn = eqb-true _ 1 (sym c.is_sewn.ensures ∙ not-false _ c.if-not-is_sewn.false) in
+    let is_sewn = eqb-true _ 1 (sym c.is_sewn.ensures ∙ c.if-not-is_sewn.false) in
     omega (
       arith,
       c.requires.1,
@@ -23,4 +23,4 @@ bounds-marks-q c =
 
 pub returns : goal.returns
 returns c =
-    sewn_away c.args.marks.now _ _ _ _ c.field.ensures (sym c.is_sewn.ensures ∙ not-false _ c.if-not-is_sewn.false) c.field-q.ensures
+    sewn_away c.args.marks.now _ _ _ _ c.field.ensures (sym c.is_sewn.ensures ∙ c.if-not-is_sewn.false) c.field-q.ensures

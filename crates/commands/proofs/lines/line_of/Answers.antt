@@ -1,6 +1,5 @@
 -- `commands::lines::line_of` meets its contract. Assumes nothing.
 use mathlib.Core.Path.{sym, ◌∙◌}
-use borrow.Author.Tests.{not-true, not-false}
 use Rattle.commands.proofs.Fields.{line_blank, line_first, line_second, line_third, line_more, line_request}
 use Rattle.commands.proofs.lines.line_of.Goals as goal
 
@@ -25,10 +24,10 @@ pub returns-then-not-is_rest_blank : goal.returns-then-not-is_rest_blank
 returns-then-not-is_rest_blank c =
     line_more _ _ _ _ _ _ _ (sym c.is_rest_blank.ensures ∙ c.if-is_rest_blank.false) (sym c.in-Value.is ∙ c.field_at.ensures)
     (sym c.in-Value-field_at.is ∙ c.field_at-2.ensures) (sym c.in-Value-field_at-2.is ∙ c.field_at-3.ensures)
-    (sym c.is_rest_blank-2.ensures ∙ not-true _ c.if-not-is_rest_blank.true)
+    (sym c.is_rest_blank-2.ensures ∙ c.if-not-is_rest_blank.true)
 
 pub returns : goal.returns
 returns c =
     line_request _ _ _ _ _ _ _ (sym c.is_rest_blank.ensures ∙ c.if-is_rest_blank.false) (sym c.in-Value.is ∙ c.field_at.ensures)
     (sym c.in-Value-field_at.is ∙ c.field_at-2.ensures) (sym c.in-Value-field_at-2.is ∙ c.field_at-3.ensures)
-    (sym c.is_rest_blank-2.ensures ∙ not-false _ c.if-not-is_rest_blank.false)
+    (sym c.is_rest_blank-2.ensures ∙ c.if-not-is_rest_blank.false)

@@ -1,4 +1,3 @@
-use borrow.Author.Tests.{not-true, not-false}
 use mathlib.Core.Path.{sym, ◌∙◌}
 use Prim.Native.Nat.{◌+◌, ◌*◌, ◌-◌}
 use Rattle.commands.proofs.Scans.{digits_on, digits_no_digit, digits_too_many, digits_end, number_some, number_none}
@@ -15,11 +14,11 @@ loop-i-init c =
 
 pub returns-then-not-is_digit : goal.returns-then-not-is_digit
 returns-then-not-is_digit c =
-    sym (digits_no_digit c.args.text.now c.loop-i.n c.loop-i.i (omega arith) (sym c.is_digit.ensures ∙ not-true _ c.if-not-is_digit.true)) ∙ c.loop-i.invariant.2
+    sym (digits_no_digit c.args.text.now c.loop-i.n c.loop-i.i (omega arith) (sym c.is_digit.ensures ∙ c.if-not-is_digit.true)) ∙ c.loop-i.invariant.2
 
 pub digit-requires : goal.digit-requires
 digit-requires c =
-    sym c.is_digit.ensures ∙ not-false _ c.if-not-is_digit.false
+    sym c.is_digit.ensures ∙ c.if-not-is_digit.false
 
 pub overflow_add-v : goal.overflow_add-v
 overflow_add-v c =
@@ -29,7 +28,7 @@ pub returns-then-v-ge4294967296 : goal.returns-then-v-ge4294967296
 returns-then-v-ge4294967296 c =
     let text = c.args.text.now in
     sym
-    (digits_too_many text c.loop-i.n c.loop-i.i (10 * c.loop-i.n + c.digit.result) (omega arith) (sym c.is_digit.ensures ∙ not-false _ c.if-not-is_digit.false)
+    (digits_too_many text c.loop-i.n c.loop-i.i (10 * c.loop-i.n + c.digit.result) (omega arith) (sym c.is_digit.ensures ∙ c.if-not-is_digit.false)
     (omega (arith, c.digit.ensures.0)) (omega arith)) ∙ c.loop-i.invariant.2
 
 pub loop-i-smaller : goal.loop-i-smaller
@@ -42,7 +41,7 @@ loop-i-preserved c =
       omega arith,
       omega (arith, c.if-v-ge4294967296.false),
       sym
-          (digits_on text c.loop-i.n c.loop-i.i (10 * c.loop-i.n + c.digit.result) (omega arith) (sym c.is_digit.ensures ∙ not-false _ c.if-not-is_digit.false)
+          (digits_on text c.loop-i.n c.loop-i.i (10 * c.loop-i.n + c.digit.result) (omega arith) (sym c.is_digit.ensures ∙ c.if-not-is_digit.false)
           (omega (arith, c.digit.ensures.0)) (omega arith)) ∙ c.loop-i.invariant.2,
     )
 

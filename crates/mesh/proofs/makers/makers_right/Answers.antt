@@ -1,6 +1,5 @@
 use Prim.Native.Nat.{◌-◌}
 use mathlib.Core.Path.{◌∙◌}
-use borrow.Author.Tests.{not-true, not-false}
 use Rattle.sound.proofs.Passes.{going_none, going_no, going_more, going_end}
 use Rattle.mesh.proofs.Gathers.{roomy}
 use Rattle.mesh.proofs.Made.{makers_are}
@@ -16,11 +15,11 @@ made_part-requires c =
 
 pub returns-then-not-made_part : goal.returns-then-not-made_part
 returns-then-not-made_part c =
-    going_no c.loop-i.invariant c.loop-i-test.true c.made_part.ensures (not-true _ c.if-not-made_part.true) ∙ makers_are c.args.mesh.now
+    going_no c.loop-i.invariant c.loop-i-test.true c.made_part.ensures c.if-not-made_part.true ∙ makers_are c.args.mesh.now
 
 pub loop-i-preserved : goal.loop-i-preserved
 loop-i-preserved c =
-    going_more c.loop-i.invariant c.loop-i-test.true c.made_part.ensures (not-false _ c.if-not-made_part.false)
+    going_more c.loop-i.invariant c.loop-i-test.true c.made_part.ensures c.if-not-made_part.false
 
 pub returns : goal.returns
 returns c =

@@ -1,6 +1,6 @@
 use mathlib.Core.Path.{ap, ◌∙◌, sym}
 use Prim.Native.Nat.{◌-◌, ◌<◌}
-use borrow.Author.Tests.{eqb-true, eqb-false, not-true, not-false}
+use borrow.Author.Tests.{eqb-true, eqb-false}
 use lib.ListN.{length, get_or}
 use Rattle.model.specs.Image.{label_in}
 use Rattle.theory.proofs.LayoutLengths.{label_short}
@@ -47,7 +47,7 @@ loop-f-smaller-then-not-is_critical c =
 
 pub loop-f-preserved-then-not-is_critical : goal.loop-f-preserved-then-not-is_critical
 loop-f-preserved-then-not-is_critical c =
-    (omega (arith, c.loop-f-test.true), shares_skip c.loop-f.invariant.1 c.field-word.ensures (eqb-false _ 2 (sym c.is_critical.ensures ∙ not-true _ c.if-not-is_critical.true)))
+    (omega (arith, c.loop-f-test.true), shares_skip c.loop-f.invariant.1 c.field-word.ensures (eqb-false _ 2 (sym c.is_critical.ensures ∙ c.if-not-is_critical.true)))
 
 pub overflow_sub-end : goal.overflow_sub-end
 overflow_sub-end c =
@@ -82,7 +82,7 @@ loop-f-preserved c =
     let small = c.requires.darts_listed.0.other_small (get_or starts c.loop-f.f 0) (c.requires.darts_listed.1.below c.loop-f.f c.loop-f-test.true) in (
       omega (arith, c.loop-f-test.true),
       shares_all c.loop-f.labels c.loop-f.bytes c.label_size-size.result
-          (shares_step c.loop-f.invariant.1 c.field-word.ensures (eqb-true _ 2 (sym c.is_critical.ensures ∙ not-false _ c.if-not-is_critical.false)) (omega (arith, c.field-word.ensures, small))
+          (shares_step c.loop-f.invariant.1 c.field-word.ensures (eqb-true _ 2 (sym c.is_critical.ensures ∙ c.if-not-is_critical.false)) (omega (arith, c.field-word.ensures, small))
           c.face_end-end.ensures c.least_code-code.ensures c.label_size-size.ensures) c.other_of.ensures c.add_face.ensures.0 c.add_face.ensures.1,
     )
 

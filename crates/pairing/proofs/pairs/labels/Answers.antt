@@ -1,6 +1,5 @@
 use lib.ListN.{length}
 use Prim.Native.Nat.{◌-◌}
-use borrow.Author.Tests.{not-true, not-false}
 use Rattle.pairing.proofs.Steps.{pairs_all, pairs_more, pairs_no, pairs_end, two_there}
 use Rattle.pairing.proofs.pairs.labels.Goals as goal
 
@@ -14,11 +13,11 @@ two-requires c =
 
 pub returns-then-not-two : goal.returns-then-not-two
 returns-then-not-two c =
-    pairs_no c.loop-t.invariant c.loop-t-test.true c.two.ensures (not-true _ c.if-not-two.true)
+    pairs_no c.loop-t.invariant c.loop-t-test.true c.two.ensures c.if-not-two.true
 
 pub loop-t-preserved : goal.loop-t-preserved
 loop-t-preserved c =
-    pairs_more c.loop-t.invariant c.loop-t-test.true c.two.ensures (not-false _ c.if-not-two.false)
+    pairs_more c.loop-t.invariant c.loop-t-test.true c.two.ensures c.if-not-two.false
 
 pub returns : goal.returns
 returns c =

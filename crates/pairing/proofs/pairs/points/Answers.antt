@@ -1,6 +1,5 @@
 use lib.ListN.{length}
 use Prim.Native.Nat.{◌-◌, ◌+◌}
-use borrow.Author.Tests.{not-true, not-false}
 use Rattle.pairing.proofs.Steps.{each_all, each_more, each_no, each_end, two_there, first_of}
 use Rattle.pairing.proofs.pairs.points.Goals as goal
 
@@ -18,11 +17,11 @@ points_pair-requires c =
 
 pub returns-then-not-points_pair : goal.returns-then-not-points_pair
 returns-then-not-points_pair c =
-    each_no c.loop-t.invariant c.loop-t-test.true c.points_pair.ensures (not-true _ c.if-not-points_pair.true)
+    each_no c.loop-t.invariant c.loop-t-test.true c.points_pair.ensures c.if-not-points_pair.true
 
 pub loop-t-preserved : goal.loop-t-preserved
 loop-t-preserved c =
-    each_more c.loop-t.invariant c.loop-t-test.true c.points_pair.ensures (not-false _ c.if-not-points_pair.false)
+    each_more c.loop-t.invariant c.loop-t-test.true c.points_pair.ensures c.if-not-points_pair.false
 
 pub returns : goal.returns
 returns c =

@@ -1,7 +1,6 @@
 -- `parts::critical::critical_right` meets its contract.
 -- Assumes nothing.
 use mathlib.Core.Path.{sym, ◌∙◌}
-use borrow.Author.Tests.{not-true, not-false}
 use Rattle.cells.proofs.Sited.{sited}
 use Rattle.parts.proofs.CriticalLaws.{few2, few3, few4, many_no, entries_no, put_spans3, put_spans4, put_numbers, put_others, put_labels, put_small, labels_tell}
 use native.Mathlib.Omega.{arith}
@@ -17,12 +16,12 @@ returns-then-not-few c =
     let from = c.args.from in
     let to = c.args.to in
     let tail = c.args.tail in
-    many_no block message starts sizes k from to tail (sym c.few.ensures ∙ not-true _ c.if-not-few.true)
+    many_no block message starts sizes k from to tail (sym c.few.ensures ∙ c.if-not-few.true)
 
 pub read_pairs-requires : goal.read_pairs-requires
 read_pairs-requires c =
     let tail = c.args.tail in
-    let few-yes = sym c.few.ensures ∙ not-false _ c.if-not-few.false in (
+    let few-yes = sym c.few.ensures ∙ c.if-not-few.false in (
       (let r = c.requires.by_index.3.part2_in in let a = r.onward in let b = r.within in omega (arith, a, b)),
       omega (arith, few2 tail few-yes, c.requires.block_value.3),
       omega (arith, few2 tail few-yes, c.requires.block_value.4),
@@ -31,7 +30,7 @@ read_pairs-requires c =
 pub read_pairs-requires-2 : goal.read_pairs-requires-2
 read_pairs-requires-2 c =
     let tail = c.args.tail in
-    let few-yes = sym c.few.ensures ∙ not-false _ c.if-not-few.false in (
+    let few-yes = sym c.few.ensures ∙ c.if-not-few.false in (
       (let r = c.requires.by_index.3.part3_in in let a = r.onward in let b = r.within in omega (arith, a, b)),
       omega (arith, few3 tail few-yes, c.requires.k_in_bounds.0),
       omega (arith, few3 tail few-yes, c.requires.k_in_bounds.1),
@@ -40,7 +39,7 @@ read_pairs-requires-2 c =
 pub read_part4-requires : goal.read_part4-requires
 read_part4-requires c =
     let tail = c.args.tail in
-    let few-yes = sym c.few.ensures ∙ not-false _ c.if-not-few.false in (
+    let few-yes = sym c.few.ensures ∙ c.if-not-few.false in (
       (let r = c.requires.by_index.3.part4_in in let a = r.onward in let b = r.within in omega (arith, a, b)),
       c.requires.block_value.2,
       omega (arith, few4 tail few-yes, c.requires.k_in_bounds.2),
@@ -51,7 +50,7 @@ read_part4-requires c =
 pub entries_fit-requires : goal.entries_fit-requires
 entries_fit-requires c =
     let tail = c.args.tail in
-    let few-yes = sym c.few.ensures ∙ not-false _ c.if-not-few.false in (
+    let few-yes = sym c.few.ensures ∙ c.if-not-few.false in (
       omega (arith, few2 tail few-yes, c.read_pairs.kept, c.requires.block_value.4),
       omega (arith, few3 tail few-yes, c.read_pairs-2.kept, c.requires.k_in_bounds.1),
       omega (arith, few3 tail few-yes, c.read_pairs-2.kept, c.requires.k_in_bounds.0),
@@ -102,10 +101,10 @@ returns-then-not-entries_fit c =
     let from = c.args.from in
     let to = c.args.to in
     let tail = c.args.tail in
-    let few-yes = sym c.few.ensures ∙ not-false _ c.if-not-few.false in
+    let few-yes = sym c.few.ensures ∙ c.if-not-few.false in
     entries_no block starts from to tail few-yes c.read_pairs.ensures c.read_pairs-2.ensures
     (c.read_part4.ensures, omega (arith, c.read_pairs-2.kept, c.requires.k_in_bounds.1), omega (arith, c.read_part4.kept, c.requires.k_in_bounds.2), omega (arith, c.read_part4.kept, c.requires.k_in_bounds.3))
-    (sym c.entries_fit.ensures ∙ not-true _ c.if-not-entries_fit.true)
+    (sym c.entries_fit.ensures ∙ c.if-not-entries_fit.true)
 
 pub put_part3-requires : goal.put_part3-requires
 put_part3-requires c =
@@ -114,8 +113,8 @@ put_part3-requires c =
     let from = c.args.from in
     let to = c.args.to in
     let tail = c.args.tail in
-    let few-yes = sym c.few.ensures ∙ not-false _ c.if-not-few.false in
-    let entries-fit-yes = sym c.entries_fit.ensures ∙ not-false _ c.if-not-entries_fit.false in
+    let few-yes = sym c.few.ensures ∙ c.if-not-few.false in
+    let entries-fit-yes = sym c.entries_fit.ensures ∙ c.if-not-entries_fit.false in
     record {
       c_in_bounds = (
         omega (arith, few3 tail few-yes, c.read_pairs-2.kept, c.requires.k_in_bounds.1),
@@ -143,8 +142,8 @@ put_part4-requires c =
     let from = c.args.from in
     let to = c.args.to in
     let tail = c.args.tail in
-    let few-yes = sym c.few.ensures ∙ not-false _ c.if-not-few.false in
-    let entries-fit-yes = sym c.entries_fit.ensures ∙ not-false _ c.if-not-entries_fit.false in
+    let few-yes = sym c.few.ensures ∙ c.if-not-few.false in
+    let entries-fit-yes = sym c.entries_fit.ensures ∙ c.if-not-entries_fit.false in
     record {
       c_in_bounds = (
         omega (arith, few4 tail few-yes, c.read_part4.kept, c.requires.k_in_bounds.2),
@@ -180,8 +179,8 @@ labels_fit-requires c =
     let from = c.args.from in
     let to = c.args.to in
     let tail = c.args.tail in
-    let few-yes = sym c.few.ensures ∙ not-false _ c.if-not-few.false in
-    let entries-fit-yes = sym c.entries_fit.ensures ∙ not-false _ c.if-not-entries_fit.false in
+    let few-yes = sym c.few.ensures ∙ c.if-not-few.false in
+    let entries-fit-yes = sym c.entries_fit.ensures ∙ c.if-not-entries_fit.false in
     record {
       n_in_bounds = (
         (sited block c.requires.block_value.0).linked.size,
@@ -250,8 +249,8 @@ returns c =
     let from = c.args.from in
     let to = c.args.to in
     let tail = c.args.tail in
-    let few-yes = sym c.few.ensures ∙ not-false _ c.if-not-few.false in
-    let entries-fit-yes = sym c.entries_fit.ensures ∙ not-false _ c.if-not-entries_fit.false in
+    let few-yes = sym c.few.ensures ∙ c.if-not-few.false in
+    let entries-fit-yes = sym c.entries_fit.ensures ∙ c.if-not-entries_fit.false in
     labels_tell block starts from to tail few-yes c.read_pairs.ensures c.read_pairs-2.ensures
     (c.read_part4.ensures, omega (arith, c.read_pairs-2.kept, c.requires.k_in_bounds.1), omega (arith, c.read_part4.kept, c.requires.k_in_bounds.2), omega (arith, c.read_part4.kept, c.requires.k_in_bounds.3))
     c.requires.block_value.8 entries-fit-yes c.requires.block_value.9 c.requires.block_value.5 c.requires.block_value.6

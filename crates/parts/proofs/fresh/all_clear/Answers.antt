@@ -1,5 +1,4 @@
 use Prim.Native.Nat.{◌-◌}
-use borrow.Author.Tests.{not-true, not-false}
 use mathlib.Core.Path.{sym, ◌∙◌}
 use Rattle.model.specs.Lists.{tab}
 use Rattle.ranking.specs.Ranks.{value_at}
@@ -22,11 +21,11 @@ returns-then-not-clear_at c =
     let keys = c.args.keys.now in
     let k = c.args.k in
     let n = c.args.n in
-    passing_not (clear_at block (tab (value_at keys) k)) c.loop-p.p n (omega arith) (sym c.clear_at.ensures ∙ not-true _ c.if-not-clear_at.true)
+    passing_not (clear_at block (tab (value_at keys) k)) c.loop-p.p n (omega arith) (sym c.clear_at.ensures ∙ c.if-not-clear_at.true)
 
 pub loop-p-preserved : goal.loop-p-preserved
 loop-p-preserved c =
-    passing_more c.loop-p.invariant (sym c.clear_at.ensures ∙ not-false _ c.if-not-clear_at.false)
+    passing_more c.loop-p.invariant (sym c.clear_at.ensures ∙ c.if-not-clear_at.false)
 
 pub returns : goal.returns
 returns c =

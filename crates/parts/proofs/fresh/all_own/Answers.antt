@@ -1,5 +1,4 @@
 use Prim.Native.Nat.{◌-◌}
-use borrow.Author.Tests.{not-true, not-false}
 use mathlib.Core.Path.{sym, ◌∙◌}
 use Rattle.parts.specs.Fresh.{own_at}
 use Rattle.arrival.proofs.Steps.{passing_none, passing_more, passing_all, passing_not}
@@ -17,11 +16,11 @@ returns-then-not-own_right c =
     let kinds = c.args.kinds.now in
     let links = c.args.links.now in
     let k = c.args.k in
-    passing_not (own_at number counter kinds links) c.loop-q.q k (omega arith) (sym c.own_right.ensures ∙ not-true _ c.if-not-own_right.true)
+    passing_not (own_at number counter kinds links) c.loop-q.q k (omega arith) (sym c.own_right.ensures ∙ c.if-not-own_right.true)
 
 pub loop-q-preserved : goal.loop-q-preserved
 loop-q-preserved c =
-    passing_more c.loop-q.invariant (sym c.own_right.ensures ∙ not-false _ c.if-not-own_right.false)
+    passing_more c.loop-q.invariant (sym c.own_right.ensures ∙ c.if-not-own_right.false)
 
 pub returns : goal.returns
 returns c =

@@ -1,7 +1,6 @@
 -- `parts::fresh::labels_fit` meets its contract.
 -- Assumes nothing.
 use mathlib.Core.Path.{sym, ◌∙◌}
-use borrow.Author.Tests.{not-true, not-false}
 use Rattle.parts.proofs.FreshSteps.{own_no, twice_no, clear_is, value_small}
 use native.Mathlib.Omega.{arith}
 use Rattle.parts.proofs.fresh.labels_fit.Goals as goal
@@ -13,7 +12,7 @@ returns-then-not-all_own c =
     let kinds = c.args.kinds.now in
     let links = c.args.links.now in
     let k = c.args.k in
-    own_no block n kinds links k (sym c.all_own.ensures ∙ not-true _ c.if-not-all_own.true)
+    own_no block n kinds links k (sym c.all_own.ensures ∙ c.if-not-all_own.true)
 
 pub put_values-requires : goal.put_values-requires
 put_values-requires c =
@@ -38,11 +37,11 @@ returns-then-not-rank c =
     let kinds = c.args.kinds.now in
     let links = c.args.links.now in
     let k = c.args.k in
-    twice_no block n kinds links k c.put_values.ensures (sym c.rank.ensures.answer ∙ not-true _ c.if-not-rank.true)
+    twice_no block n kinds links k c.put_values.ensures (sym c.rank.ensures.answer ∙ c.if-not-rank.true)
 
 pub all_clear-requires : goal.all_clear-requires
 all_clear-requires c =
-    (c.requires.n_in_bounds.0, c.requires.n_in_bounds.1, omega (arith, c.rank.kept, c.requires.k_in_bounds.1), c.requires.n_in_bounds.5, (c.rank.ensures.ranked (not-false _ c.if-not-rank.false)).ascends)
+    (c.requires.n_in_bounds.0, c.requires.n_in_bounds.1, omega (arith, c.rank.kept, c.requires.k_in_bounds.1), c.requires.n_in_bounds.5, (c.rank.ensures.ranked c.if-not-rank.false).ascends)
 
 pub returns : goal.returns
 returns c =
@@ -51,5 +50,5 @@ returns c =
     let kinds = c.args.kinds.now in
     let links = c.args.links.now in
     let k = c.args.k in
-    clear_is block n kinds links k (sym c.all_own.ensures ∙ not-false _ c.if-not-all_own.false) c.put_values.ensures
-    (sym c.rank.ensures.answer ∙ not-false _ c.if-not-rank.false) (c.rank.ensures.ranked (not-false _ c.if-not-rank.false)) c.all_clear.ensures
+    clear_is block n kinds links k (sym c.all_own.ensures ∙ c.if-not-all_own.false) c.put_values.ensures
+    (sym c.rank.ensures.answer ∙ c.if-not-rank.false) (c.rank.ensures.ranked c.if-not-rank.false) c.all_clear.ensures

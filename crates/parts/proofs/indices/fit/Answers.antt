@@ -1,5 +1,4 @@
 use Prim.Native.Nat.{◌-◌}
-use borrow.Author.Tests.{not-true, not-false}
 use mathlib.Core.Path.{sym, ◌∙◌}
 use Rattle.parts.specs.Indices.{fits_at}
 use Rattle.arrival.proofs.Steps.{passing_none, passing_more, passing_all, passing_not}
@@ -17,11 +16,11 @@ returns-then-not-fits_at c =
     let marks = c.args.marks.now in
     let k = c.args.k in
     let c' = c.args.c in
-    record { said = passing_not (fits_at indices starts marks k) c.loop-e.e c' (omega arith) (sym c.fits_at.ensures ∙ not-true _ c.if-not-fits_at.true) }
+    record { said = passing_not (fits_at indices starts marks k) c.loop-e.e c' (omega arith) (sym c.fits_at.ensures ∙ c.if-not-fits_at.true) }
 
 pub loop-e-preserved : goal.loop-e-preserved
 loop-e-preserved c =
-    passing_more c.loop-e.invariant (sym c.fits_at.ensures ∙ not-false _ c.if-not-fits_at.false)
+    passing_more c.loop-e.invariant (sym c.fits_at.ensures ∙ c.if-not-fits_at.false)
 
 pub returns : goal.returns
 returns c =

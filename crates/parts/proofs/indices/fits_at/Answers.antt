@@ -1,7 +1,6 @@
 -- `parts::indices::fits_at` meets its contract.
 -- Assumes nothing.
 use mathlib.Core.Path.{sym, ◌∙◌}
-use borrow.Author.Tests.{not-true, not-false}
 use Rattle.parts.proofs.IndexLaws.{fits_past, fits_low, fits_rest}
 use native.Mathlib.Omega.{arith}
 use Rattle.parts.proofs.indices.fits_at.Goals as goal
@@ -18,7 +17,7 @@ returns-then-not-above c =
     let marks = c.args.marks.now in
     let k = c.args.k in
     let e = c.args.e in
-    fits_low indices starts marks k e (sym c.above.ensures ∙ not-true _ c.if-not-above.true)
+    fits_low indices starts marks k e (sym c.above.ensures ∙ c.if-not-above.true)
 
 pub index_at-start-requires : goal.index_at-start-requires
 index_at-start-requires c =
@@ -35,4 +34,4 @@ returns c =
     let marks = c.args.marks.now in
     let k = c.args.k in
     let e = c.args.e in
-    fits_rest indices starts marks k e (omega (arith, c.entry_index-i.ensures, c.if-k-i.false)) (sym c.above.ensures ∙ not-false _ c.if-not-above.false) c.entry_index-i.ensures c.index_at-start.ensures
+    fits_rest indices starts marks k e (omega (arith, c.entry_index-i.ensures, c.if-k-i.false)) (sym c.above.ensures ∙ c.if-not-above.false) c.entry_index-i.ensures c.index_at-start.ensures

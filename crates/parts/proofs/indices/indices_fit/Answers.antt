@@ -1,7 +1,6 @@
 -- `parts::indices::indices_fit` meets its contract.
 -- Assumes nothing.
 use mathlib.Core.Path.{sym, ◌∙◌}
-use borrow.Author.Tests.{not-true, not-false}
 use Rattle.parts.proofs.IndexLaws.{marks_none, marks_more, part_told, told_below, second_no, third_no, fourth_is}
 use native.Mathlib.Omega.{arith}
 use Rattle.parts.proofs.indices.indices_fit.Goals as goal
@@ -20,11 +19,11 @@ returns-then-not-fit c =
     let c2 = c.args.c2 in
     let c3 = c.args.c3 in
     let c4 = c.args.c4 in
-    second_no starts second third fourth k c2 c3 c4 (sym (part_told c.fit.ensures c.requires.0 (marks_none _ c.requires.5)) ∙ not-true _ c.if-not-fit.true)
+    second_no starts second third fourth k c2 c3 c4 (sym (part_told c.fit.ensures c.requires.0 (marks_none _ c.requires.5)) ∙ c.if-not-fit.true)
 
 pub mark-requires : goal.mark-requires
 mark-requires c =
-    (c.requires.0, λ e h. let r = told_below c.fit.ensures c.requires.0 (marks_none _ c.requires.5) (not-false _ c.if-not-fit.false) e h in omega (arith, r, c.requires.4))
+    (c.requires.0, λ e h. let r = told_below c.fit.ensures c.requires.0 (marks_none _ c.requires.5) c.if-not-fit.false e h in omega (arith, r, c.requires.4))
 
 pub fit-requires-2 : goal.fit-requires-2
 fit-requires-2 c =
@@ -41,12 +40,12 @@ returns-then-not-fit-2 c =
     let c3 = c.args.c3 in
     let c4 = c.args.c4 in
     third_no starts second third fourth k c2 c3 c4
-    (sym (part_told c.fit-2.ensures c.requires.1 (marks_more (marks_none _ c.requires.5) c.mark.ensures)) ∙ not-true _ c.if-not-fit-2.true)
+    (sym (part_told c.fit-2.ensures c.requires.1 (marks_more (marks_none _ c.requires.5) c.mark.ensures)) ∙ c.if-not-fit-2.true)
 
 pub mark-requires-2 : goal.mark-requires-2
 mark-requires-2 c = (
   c.requires.1,
-  λ e h. let r = told_below c.fit-2.ensures c.requires.1 (marks_more (marks_none _ c.requires.5) c.mark.ensures) (not-false _ c.if-not-fit-2.false) e h in
+  λ e h. let r = told_below c.fit-2.ensures c.requires.1 (marks_more (marks_none _ c.requires.5) c.mark.ensures) c.if-not-fit-2.false e h in
       omega (arith, r, c.mark.ensures.size, c.requires.4),
 )
 
@@ -65,6 +64,6 @@ returns c =
     let c3 = c.args.c3 in
     let c4 = c.args.c4 in
     fourth_is starts second third fourth k c2 c3 c4
-    (sym (part_told c.fit.ensures c.requires.0 (marks_none _ c.requires.5)) ∙ not-false _ c.if-not-fit.false)
-    (sym (part_told c.fit-2.ensures c.requires.1 (marks_more (marks_none _ c.requires.5) c.mark.ensures)) ∙ not-false _ c.if-not-fit-2.false)
+    (sym (part_told c.fit.ensures c.requires.0 (marks_none _ c.requires.5)) ∙ c.if-not-fit.false)
+    (sym (part_told c.fit-2.ensures c.requires.1 (marks_more (marks_none _ c.requires.5) c.mark.ensures)) ∙ c.if-not-fit-2.false)
     (part_told c.fit-3.ensures c.requires.2 (marks_more (marks_more (marks_none _ c.requires.5) c.mark.ensures) c.mark-2.ensures))

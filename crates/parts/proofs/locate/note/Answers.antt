@@ -1,7 +1,6 @@
 -- `parts::locate::note` meets its contract.
 -- Assumes nothing.
 use mathlib.Core.Path.{sym, ◌∙◌, ap}
-use borrow.Author.Tests.{not-true, not-false}
 use Rattle.model.specs.Image.{is_critical_word}
 use Rattle.ranking.specs.Ranks.{value_at, rank_in}
 use Rattle.parts.proofs.Locating.{noted_free, noted_none, noted_found, found_below}
@@ -15,7 +14,7 @@ returns-then-not-is_critical c =
     let c' = c.args.c in
     let p' = c.args.p.0 in
     let places = c.args.places.now in
-    noted_free block keys c' p' places (ap is_critical_word (sym c.field.ensures) ∙ sym c.is_critical.ensures ∙ not-true _ c.if-not-is_critical.true)
+    noted_free block keys c' p' places (ap is_critical_word (sym c.field.ensures) ∙ sym c.is_critical.ensures ∙ c.if-not-is_critical.true)
 
 pub returns-in_default : goal.returns-in_default
 returns-in_default c =
@@ -49,5 +48,5 @@ returns c =
     let c' = c.args.c in
     let p' = c.args.p.0 in
     let places = c.args.places.now in
-    noted_found block keys c' p' places (ap is_critical_word (sym c.field.ensures) ∙ sym c.is_critical.ensures ∙ not-false _ c.if-not-is_critical.false) c.requires.4 c.requires.3
+    noted_found block keys c' p' places (ap is_critical_word (sym c.field.ensures) ∙ sym c.is_critical.ensures ∙ c.if-not-is_critical.false) c.requires.4 c.requires.3
     c.requires.5 (ap (rank_in (value_at keys) c') (sym c.field-2.ensures) ∙ sym c.find.ensures ∙ c.in-At.is)

@@ -1,7 +1,6 @@
 -- `parts::meets::entry_right` meets its contract.
 -- Assumes nothing.
 use mathlib.Core.Path.{subst}
-use borrow.Author.Tests.{not-true, not-false}
 use Rattle.parts.specs.Meets.{Walked}
 use Rattle.parts.proofs.Trails.{trailed, not_critical, not_equal, entry_told}
 use native.Mathlib.Omega.{arith}
@@ -35,7 +34,7 @@ returns-then-not-walk_face c =
     let y = c.args.y.0 in
     let at = c.args.at.0 in
     let size = c.args.size in
-    not_equal block draft ranks from y at size (subst (Walked block y size _) (not-true _ c.if-not-walk_face.true) c.walk_face.ensures)
+    not_equal block draft ranks from y at size (subst (Walked block y size _) c.if-not-walk_face.true c.walk_face.ensures)
 
 pub all_meet-requires : goal.all_meet-requires
 all_meet-requires c =
@@ -45,7 +44,7 @@ all_meet-requires c =
       c.requires.0,
       c.requires.3,
       trailed c.requires.0.linked c.requires.2
-          (subst (Walked block y size _) (not-false _ c.if-not-walk_face.false) c.walk_face.ensures),
+          (subst (Walked block y size _) c.if-not-walk_face.false c.walk_face.ensures),
     )
 
 pub returns : goal.returns
@@ -58,4 +57,4 @@ returns c =
     let at = c.args.at.0 in
     let size = c.args.size in
     entry_told block draft ranks from y at size c.field.ensures c.if-field-from.false
-    (subst (Walked block y size _) (not-false _ c.if-not-walk_face.false) c.walk_face.ensures) c.all_meet.ensures
+    (subst (Walked block y size _) c.if-not-walk_face.false c.walk_face.ensures) c.all_meet.ensures

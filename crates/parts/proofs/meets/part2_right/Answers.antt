@@ -1,6 +1,5 @@
 use Prim.Native.Nat.{◌-◌}
 use mathlib.Core.Path.{refl, sym, ◌∙◌}
-use borrow.Author.Tests.{not-true, not-false}
 use Rattle.arrival.proofs.Steps.{passing_none, passing_more, passing_all, passing_not}
 use Rattle.parts.specs.Sewing.{passes_at}
 use Rattle.parts.proofs.Writing.{face_size_is, faced_none, faced_more, faced_all}
@@ -66,7 +65,7 @@ returns-then-not-enter c =
     part2_no
     (passing_not (passes_at c.args.block.now c.args.draft.now c.args.ranks.now c.args.sizes.now c.args.places.now c.args.indices.now c.args.n c.args.from) c.loop-e.e c.args.c
     (omega arith)
-    (sym (entered_said c.args.sizes.now c.args.places.now c.args.indices.now c.loop-e.e c.loop-e.invariant.0 entered) ∙ not-true _ c.if-not-enter.true))
+    (sym (entered_said c.args.sizes.now c.args.places.now c.args.indices.now c.loop-e.e c.loop-e.invariant.0 entered) ∙ c.if-not-enter.true))
 
 pub overflow_add-e : goal.overflow_add-e
 overflow_add-e c =
@@ -75,7 +74,7 @@ overflow_add-e c =
 pub loop-e-preserved : goal.loop-e-preserved
 loop-e-preserved c =
     let entered = entered_at c.args.sizes.now c.args.places.now c.args.indices.now c.loop-e.e c.place_at-y.ensures c.entry_index-at.ensures c.size_at-size.ensures c.enter.ensures in
-    let yes = not-false _ c.if-not-enter.false in (
+    let yes = c.if-not-enter.false in (
       seen_more c.loop-e.e c.loop-e.invariant.0 (entered.seen_are yes),
       faced_more c.requires.sewable.spans c.loop-e.invariant.1 (omega arith) (entered.kinds_are yes),
       faced_more c.requires.sewable.spans c.loop-e.invariant.2 (omega arith) (entered.links_are yes),

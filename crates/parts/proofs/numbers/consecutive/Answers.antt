@@ -1,5 +1,4 @@
 use Prim.Native.Nat.{◌-◌}
-use borrow.Author.Tests.{not-true, not-false}
 use mathlib.Core.Path.{sym, ◌∙◌}
 use Rattle.parts.specs.Numbers.{follows_at}
 use Rattle.arrival.proofs.Steps.{passing_none, passing_more, passing_all, passing_not}
@@ -12,11 +11,11 @@ loop-e-init c =
 
 pub returns-then-not-follows : goal.returns-then-not-follows
 returns-then-not-follows c =
-    passing_not (follows_at c.args.numbers.now) c.loop-e.e (c.args.c - 1) (omega arith) (sym c.follows.ensures ∙ not-true _ c.if-not-follows.true)
+    passing_not (follows_at c.args.numbers.now) c.loop-e.e (c.args.c - 1) (omega arith) (sym c.follows.ensures ∙ c.if-not-follows.true)
 
 pub loop-e-preserved : goal.loop-e-preserved
 loop-e-preserved c =
-    (passing_more c.loop-e.invariant.0 (sym c.follows.ensures ∙ not-false _ c.if-not-follows.false), omega arith)
+    (passing_more c.loop-e.invariant.0 (sym c.follows.ensures ∙ c.if-not-follows.false), omega arith)
 
 pub returns : goal.returns
 returns c =

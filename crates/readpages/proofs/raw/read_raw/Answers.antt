@@ -3,7 +3,6 @@
 use mathlib.Core.Path.{refl}
 use Prim.Native.Nat.{◌/◌}
 use lib.ListN.{length}
-use borrow.Author.Tests.{not-true, not-false}
 use Rattle.model.specs.Image.{words_of}
 use Rattle.theory.proofs.LayoutLaws.{byte_list}
 use Rattle.memory.specs.Header.{limits_of}
@@ -111,7 +110,7 @@ store_rows-requires c =
 
 pub returns-then-not-store_rows : goal.returns-then-not-store_rows
 returns-then-not-store_rows c =
-    let wrong = not-true c.store_rows.result c.if-not-store_rows.true in
+    let wrong = c.if-not-store_rows.true in
     let column = rw c.in-Value.is at c.read_column.ensures in
     let lim = limits_of c.args.limits in
     let s = c.args.s.now in
@@ -129,7 +128,7 @@ returns c =
     let lim = limits_of c.args.limits in
     let s = c.args.s.now in
     let bytes = byte_list s (λ i. (c.shared_slice_known-1.given i).fits) in
-    let stored = rw (not-false c.store_rows.result c.if-not-store_rows.false) at c.store_rows.ensures in
+    let stored = rw c.if-not-store_rows.false at c.store_rows.ensures in
     pages_read lim c.requires.0 s bytes refl column c.row_count-n.ensures
     c.if-total-s.false (omega (arith, c.if-number-ge-BLOCKS.false)) (omega (arith, c.if-limits-n.false)) (told_yes c.fills.ensures c.if-not-fills.false)
     (told_yes c.firsts_right.ensures c.if-not-firsts_right.false) (told_yes c.rest_blank.ensures c.if-not-rest_blank.false) stored.rows

@@ -2,7 +2,6 @@
 -- Assumes nothing.
 use mathlib.Core.Path.{refl}
 use mir.Facts.{Fits-lt-pow}
-use borrow.Author.Tests.{not-false}
 use Rattle.theory.proofs.LayoutLaws.{byte_list}
 use Rattle.memory.specs.Header.{limits_of}
 use Rattle.cells.proofs.Sited.{sited}
@@ -82,7 +81,7 @@ volume_right-requires c =
         omega (arith, c.if-limits-front.false, lent.marks_long),
         lent.marks_clear,
       );
-      ranked = (c.new_serials.ensures.ranked (not-false _ c.if-not-new_serials.false), finite_told c.new_serials.ensures (not-false _ c.if-not-new_serials.false), (c.requires.block_value.3.0, told));
+      ranked = (c.new_serials.ensures.ranked c.if-not-new_serials.false, finite_told c.new_serials.ensures c.if-not-new_serials.false, (c.requires.block_value.3.0, told));
     }
 
 pub shape_of-keys-then-not-volume_right : goal.shape_of-keys-then-not-volume_right
@@ -118,7 +117,7 @@ parts_right-right-requires c =
         omega (arith, c.if-limits-front.false, lent.kinds_long),
         omega (arith, c.if-limits-front.false, lent.links_long),
       );
-      by_index = (c.args.vertex.now, c.args.serial.now, (new_volume c.new_serials.ensures c.if-not-new_serials.false c.volume_right.ensures.answer c.if-not-volume_right.false (c.volume_right.ensures.drafted (not-false _ c.if-not-volume_right.false)) c.requires.block_value.3.2));
+      by_index = (c.args.vertex.now, c.args.serial.now, (new_volume c.new_serials.ensures c.if-not-new_serials.false c.volume_right.ensures.answer c.if-not-volume_right.false (c.volume_right.ensures.drafted c.if-not-volume_right.false) c.requires.block_value.3.2));
       darts_in_bounds = (
         omega (arith, c.if-limits-front.false, c.new_serials.kept, c.volume_right.kept, lent.codes_long),
         omega (arith, c.if-limits-front.false, c.volume_right.kept, lent.indices_long),
@@ -210,5 +209,5 @@ returns c =
     (omega (arith, c.requires.block_value.2.serial_size, (told_of c.requires.block_value.3.2).few))
     c.new_serials.ensures c.if-not-new_serials.false c.volume_right.ensures.answer c.if-not-volume_right.false
     (c.parts_right-right.ensures c.args.vertex.now c.args.serial.now
-    (new_volume c.new_serials.ensures c.if-not-new_serials.false c.volume_right.ensures.answer c.if-not-volume_right.false (c.volume_right.ensures.drafted (not-false _ c.if-not-volume_right.false)) c.requires.block_value.3.2))
-    (c.volume_right.ensures.drafted (not-false _ c.if-not-volume_right.false)) c.last_two.ensures
+    (new_volume c.new_serials.ensures c.if-not-new_serials.false c.volume_right.ensures.answer c.if-not-volume_right.false (c.volume_right.ensures.drafted c.if-not-volume_right.false) c.requires.block_value.3.2))
+    (c.volume_right.ensures.drafted c.if-not-volume_right.false) c.last_two.ensures

@@ -1,5 +1,4 @@
 use mathlib.Core.Path.{sym, ◌∙◌}
-use borrow.Author.Tests.{not-true, not-false}
 use Prim.Native.Nat.{◌-◌}
 use Rattle.release.proofs.Labelling.{facing_start, facing_end, sewing_stays, starting, face_skip, number_fits, face_one, one, order_few}
 use native.Mathlib.Omega.{arith}
@@ -47,7 +46,7 @@ loop-f-smaller-then-not-is_sewn c =
 
 pub loop-f-preserved-then-not-is_sewn : goal.loop-f-preserved-then-not-is_sewn
 loop-f-preserved-then-not-is_sewn c =
-    face_skip c.requires.0 c.requires.1 c.loop-f-test.true c.loop-f.invariant c.field.ensures (sym c.is_sewn.ensures ∙ not-true _ c.if-not-is_sewn.true)
+    face_skip c.requires.0 c.requires.1 c.loop-f-test.true c.loop-f.invariant c.field.ensures (sym c.is_sewn.ensures ∙ c.if-not-is_sewn.true)
 
 pub label_face-requires : goal.label_face-requires
 label_face-requires c =
@@ -55,14 +54,14 @@ label_face-requires c =
       sewing_stays c.requires.0 c.loop-f.invariant.same,
       s.below,
       s.inside,
-      sym c.field.ensures ∙ one c.requires.0 c.requires.1 c.loop-f-test.true c.loop-f.invariant c.field.ensures (sym c.is_sewn.ensures ∙ not-false _ c.if-not-is_sewn.false),
+      sym c.field.ensures ∙ one c.requires.0 c.requires.1 c.loop-f-test.true c.loop-f.invariant c.field.ensures (sym c.is_sewn.ensures ∙ c.if-not-is_sewn.false),
       c.requires.2,
-      omega (arith, number_fits c.requires.0 c.requires.1 c.loop-f-test.true c.loop-f.invariant c.field.ensures (sym c.is_sewn.ensures ∙ not-false _ c.if-not-is_sewn.false), c.requires.3),
+      omega (arith, number_fits c.requires.0 c.requires.1 c.loop-f-test.true c.loop-f.invariant c.field.ensures (sym c.is_sewn.ensures ∙ c.if-not-is_sewn.false), c.requires.3),
     )
 
 pub overflow_add-number : goal.overflow_add-number
 overflow_add-number c =
-    omega (arith, number_fits c.requires.0 c.requires.1 c.loop-f-test.true c.loop-f.invariant c.field.ensures (sym c.is_sewn.ensures ∙ not-false _ c.if-not-is_sewn.false), c.requires.3)
+    omega (arith, number_fits c.requires.0 c.requires.1 c.loop-f-test.true c.loop-f.invariant c.field.ensures (sym c.is_sewn.ensures ∙ c.if-not-is_sewn.false), c.requires.3)
 
 pub loop-f-smaller : goal.loop-f-smaller
 loop-f-smaller c =
@@ -70,7 +69,7 @@ loop-f-smaller c =
 
 pub loop-f-preserved : goal.loop-f-preserved
 loop-f-preserved c =
-    face_one c.requires.0 c.requires.1 c.loop-f-test.true c.loop-f.invariant c.field.ensures (sym c.is_sewn.ensures ∙ not-false _ c.if-not-is_sewn.false) c.label_face.ensures.same c.label_face.ensures.labelled
+    face_one c.requires.0 c.requires.1 c.loop-f-test.true c.loop-f.invariant c.field.ensures (sym c.is_sewn.ensures ∙ c.if-not-is_sewn.false) c.label_face.ensures.same c.label_face.ensures.labelled
 
 pub shape_of-block : goal.shape_of-block
 shape_of-block c =

@@ -2,7 +2,6 @@
 -- Assumes nothing.
 use mathlib.Core.Path.{sym, ap, ◌∙◌}
 use Rattle.model.specs.Image.{is_sewn_word}
-use borrow.Author.Tests.{not-true, not-false}
 use Rattle.memory.proofs.Points.{finite_at}
 use Rattle.sound.proofs.OneDart.{point_stop, point_only, point_go, next_place, opposite_place}
 use native.Mathlib.Omega.{arith}
@@ -21,27 +20,27 @@ same_at-requires c =
 
 pub returns-then-not-same_at : goal.returns-then-not-same_at
 returns-then-not-same_at c =
-    point_stop _ 0 _ c.field.ensures c.field-2.ensures c.same_at.ensures (not-true _ c.if-not-same_at.true)
+    point_stop _ 0 _ c.field.ensures c.field-2.ensures c.same_at.ensures c.if-not-same_at.true
 
 pub returns-then-not-is_sewn : goal.returns-then-not-is_sewn
 returns-then-not-is_sewn c =
-    point_only _ 0 _ c.field.ensures c.field-2.ensures c.same_at.ensures (not-false _ c.if-not-same_at.false) c.field-k.ensures (sym c.is_sewn.ensures ∙ not-true _ c.if-not-is_sewn.true)
+    point_only _ 0 _ c.field.ensures c.field-2.ensures c.same_at.ensures c.if-not-same_at.false c.field-k.ensures (sym c.is_sewn.ensures ∙ c.if-not-is_sewn.true)
 
 pub field-requires-4 : goal.field-requires-4
 field-requires-4 c =
-    let sewn = sym c.is_sewn.ensures ∙ not-false _ c.if-not-is_sewn.false in
+    let sewn = sym c.is_sewn.ensures ∙ c.if-not-is_sewn.false in
     let l = c.requires.4 _ c.requires.0 (ap is_sewn_word (sym c.field-k.ensures) ∙ sewn) in
     (omega (arith, l, c.field-3.ensures), omega arith)
 
 pub same_at-requires-2 : goal.same_at-requires-2
 same_at-requires-2 c =
-    let sewn = sym c.is_sewn.ensures ∙ not-false _ c.if-not-is_sewn.false in
+    let sewn = sym c.is_sewn.ensures ∙ c.if-not-is_sewn.false in
     let l = rw (sym c.field-3.ensures) at (c.requires.4 _ c.requires.0 (ap is_sewn_word (sym c.field-k.ensures) ∙ sewn)) in
     let w = next_place _ _ c.requires.3 l c.field-4.ensures in
     (omega (arith, c.requires.0), omega (arith, w), search rules, finite_at _ _ (c.requires.5 _ c.requires.0), finite_at _ _ (c.requires.5 _ w))
 
 pub returns : goal.returns
 returns c =
-    let sewn = sym c.is_sewn.ensures ∙ not-false _ c.if-not-is_sewn.false in
-    point_go _ 0 _ c.field.ensures c.field-2.ensures c.same_at.ensures (not-false _ c.if-not-same_at.false) c.field-k.ensures sewn c.field-3.ensures
+    let sewn = sym c.is_sewn.ensures ∙ c.if-not-is_sewn.false in
+    point_go _ 0 _ c.field.ensures c.field-2.ensures c.same_at.ensures c.if-not-same_at.false c.field-k.ensures sewn c.field-3.ensures
     c.field-4.ensures c.same_at-2.ensures

@@ -1,6 +1,5 @@
 use mathlib.Core.Path.{refl, ◌∙◌}
 use Prim.Native.Nat.{◌-◌}
-use borrow.Author.Tests.{not-true, not-false}
 use Rattle.columns.proofs.Points.{finite_is}
 use Rattle.sound.proofs.Passes.{going_none, going_no, going_more, going_end}
 use native.Mathlib.Omega.{arith}
@@ -17,11 +16,11 @@ finite_at-requires c =
 
 pub returns-then-not-finite_at : goal.returns-then-not-finite_at
 returns-then-not-finite_at c =
-    going_no c.loop-i.invariant.0 (omega (arith, c.loop-i-test.true, c.loop-i.invariant.1)) c.finite_at.ensures (not-true _ c.if-not-finite_at.true) ∙ finite_is c.args.block.now
+    going_no c.loop-i.invariant.0 (omega (arith, c.loop-i-test.true, c.loop-i.invariant.1)) c.finite_at.ensures c.if-not-finite_at.true ∙ finite_is c.args.block.now
 
 pub loop-i-preserved : goal.loop-i-preserved
 loop-i-preserved c =
-    (going_more c.loop-i.invariant.0 (omega (arith, c.loop-i-test.true, c.loop-i.invariant.1)) c.finite_at.ensures (not-false _ c.if-not-finite_at.false), c.loop-i.invariant.1)
+    (going_more c.loop-i.invariant.0 (omega (arith, c.loop-i-test.true, c.loop-i.invariant.1)) c.finite_at.ensures c.if-not-finite_at.false, c.loop-i.invariant.1)
 
 pub returns : goal.returns
 returns c =

@@ -1,7 +1,6 @@
 -- `sound::questions::labels_right` meets its contract: labels one by one, then all of them together.
 -- Assumes nothing.
 use mathlib.Core.Path.{sym, ◌∙◌}
-use borrow.Author.Tests.{not-true, not-false}
 use Rattle.columns.proofs.Labels.{labels_are}
 use Rattle.sound.proofs.OneDart.{and_stop, and_go}
 use Rattle.sound.proofs.questions.labels_right.Goals as goal
@@ -12,7 +11,7 @@ own_labels-requires c =
 
 pub returns-then-not-own_labels : goal.returns-then-not-own_labels
 returns-then-not-own_labels c =
-    and_stop _ (sym c.own_labels.ensures ∙ not-true _ c.if-not-own_labels.true) ∙ labels_are _ c.requires.block_in_bounds.1
+    and_stop _ (sym c.own_labels.ensures ∙ c.if-not-own_labels.true) ∙ labels_are _ c.requires.block_in_bounds.1
 
 pub labels_differ-requires : goal.labels_differ-requires
 labels_differ-requires c =
@@ -20,4 +19,4 @@ labels_differ-requires c =
 
 pub returns : goal.returns
 returns c =
-    and_go (sym c.own_labels.ensures ∙ not-false _ c.if-not-own_labels.false) c.labels_differ.ensures ∙ labels_are _ c.requires.block_in_bounds.1
+    and_go (sym c.own_labels.ensures ∙ c.if-not-own_labels.false) c.labels_differ.ensures ∙ labels_are _ c.requires.block_in_bounds.1

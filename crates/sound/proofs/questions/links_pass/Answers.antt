@@ -1,7 +1,6 @@
 use mathlib.Core.Path.{refl, ◌∙◌}
 use Prim.Native.Nat.{◌-◌}
 use lib.ListN.{length-set}
-use borrow.Author.Tests.{not-true, not-false}
 use Rattle.sound.proofs.Passes.{passing_none, test_no, mark_no, passing_more, passing_end, as_links, link_below}
 use native.Mathlib.Omega.{arith}
 use Rattle.sound.proofs.questions.links_pass.Goals as goal
@@ -16,11 +15,11 @@ shape_of-seen-then-not-link_at c =
 
 pub returns-then-not-link_at : goal.returns-then-not-link_at
 returns-then-not-link_at c =
-    as_links (test_no c.loop-i.invariant.0 c.loop-i-test.true c.link_at.ensures (not-true _ c.if-not-link_at.true))
+    as_links (test_no c.loop-i.invariant.0 c.loop-i-test.true c.link_at.ensures c.if-not-link_at.true)
 
 pub bounds-seen-a : goal.bounds-seen-a
 bounds-seen-a c =
-    let lt = link_below _ _ _ c.link_at.ensures (not-false _ c.if-not-link_at.false) in
+    let lt = link_below _ _ _ c.link_at.ensures c.if-not-link_at.false in
     omega (arith, lt, c.field-a.ensures, c.loop-i.invariant.0.marks.len)
 
 pub shape_of-seen-then-seen-a-ne0 : goal.shape_of-seen-then-seen-a-ne0
@@ -33,13 +32,13 @@ returns-then-seen-a-ne0 c =
 
 pub bounds-seen-a-in-loop-i : goal.bounds-seen-a-in-loop-i
 bounds-seen-a-in-loop-i c =
-    let lt = link_below _ _ _ c.link_at.ensures (not-false _ c.if-not-link_at.false) in
+    let lt = link_below _ _ _ c.link_at.ensures c.if-not-link_at.false in
     omega (arith, lt, c.field-a.ensures, c.loop-i.invariant.0.marks.len)
 
 pub loop-i-preserved : goal.loop-i-preserved
 loop-i-preserved c =
-    let lt = link_below _ _ _ c.link_at.ensures (not-false _ c.if-not-link_at.false) in
-    (passing_more c.loop-i.invariant.0 c.loop-i-test.true c.link_at.ensures (not-false _ c.if-not-link_at.false) lt c.field-a.ensures c.if-seen-a-ne0.false, length-set c.loop-i.seen _ _ ∙ c.loop-i.invariant.1)
+    let lt = link_below _ _ _ c.link_at.ensures c.if-not-link_at.false in
+    (passing_more c.loop-i.invariant.0 c.loop-i-test.true c.link_at.ensures c.if-not-link_at.false lt c.field-a.ensures c.if-seen-a-ne0.false, length-set c.loop-i.seen _ _ ∙ c.loop-i.invariant.1)
 
 pub shape_of-seen : goal.shape_of-seen
 shape_of-seen c =

@@ -1,6 +1,5 @@
 use mathlib.Core.Path.{refl, ◌∙◌}
 use Prim.Native.Nat.{◌-◌}
-use borrow.Author.Tests.{not-true, not-false}
 use Rattle.sound.proofs.Passes.{going_none, going_no, going_more, going_end}
 use Rattle.sound.proofs.questions.own_labels.Goals as goal
 
@@ -11,12 +10,12 @@ loop-i-init c =
 pub returns-then-not-label_right : goal.returns-then-not-label_right
 returns-then-not-label_right c =
     going_no c.loop-i.invariant.0 c.loop-i-test.true
-    (c.label_right.ensures ∙ rw (c.field-k.ensures, c.field-l.ensures, c.loop-i.invariant.1, c.loop-i.invariant.2) refl) (not-true _ c.if-not-label_right.true)
+    (c.label_right.ensures ∙ rw (c.field-k.ensures, c.field-l.ensures, c.loop-i.invariant.1, c.loop-i.invariant.2) refl) c.if-not-label_right.true
 
 pub loop-i-preserved : goal.loop-i-preserved
 loop-i-preserved c = (
   going_more c.loop-i.invariant.0 c.loop-i-test.true
-      (c.label_right.ensures ∙ rw (c.field-k.ensures, c.field-l.ensures, c.loop-i.invariant.1, c.loop-i.invariant.2) refl) (not-false _ c.if-not-label_right.false),
+      (c.label_right.ensures ∙ rw (c.field-k.ensures, c.field-l.ensures, c.loop-i.invariant.1, c.loop-i.invariant.2) refl) c.if-not-label_right.false,
   c.loop-i.invariant.1,
   c.loop-i.invariant.2,
 )

@@ -1,6 +1,5 @@
 use mathlib.Core.Path.{refl, ◌∙◌}
 use Prim.Native.Nat.{◌-◌}
-use borrow.Author.Tests.{not-true, not-false}
 use Rattle.sound.proofs.Passes.{going_none, going_no, going_more, going_end}
 use Rattle.sound.proofs.Whole.{link_places, third_places, points_agreeing, finite_all}
 use native.Mathlib.Omega.{arith}
@@ -24,12 +23,12 @@ points_at-requires c =
 
 pub returns-then-not-points_at : goal.returns-then-not-points_at
 returns-then-not-points_at c =
-    going_no c.loop-i.invariant.0 (omega (arith, c.loop-i-test.true, c.loop-i.invariant.1)) c.points_at.ensures (not-true _ c.if-not-points_at.true)
+    going_no c.loop-i.invariant.0 (omega (arith, c.loop-i-test.true, c.loop-i.invariant.1)) c.points_at.ensures c.if-not-points_at.true
     ∙ points_agreeing _ c.requires.1 c.requires.3 c.requires.4
 
 pub loop-i-preserved : goal.loop-i-preserved
 loop-i-preserved c =
-    (going_more c.loop-i.invariant.0 (omega (arith, c.loop-i-test.true, c.loop-i.invariant.1)) c.points_at.ensures (not-false _ c.if-not-points_at.false), c.loop-i.invariant.1)
+    (going_more c.loop-i.invariant.0 (omega (arith, c.loop-i-test.true, c.loop-i.invariant.1)) c.points_at.ensures c.if-not-points_at.false, c.loop-i.invariant.1)
 
 pub returns : goal.returns
 returns c =

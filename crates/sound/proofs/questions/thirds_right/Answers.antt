@@ -1,6 +1,5 @@
 use mathlib.Core.Path.{refl, ◌∙◌}
 use Prim.Native.Nat.{◌-◌}
-use borrow.Author.Tests.{not-true, not-false}
 use Rattle.sound.proofs.Passes.{going_none, going_no, going_more, going_end}
 use Rattle.sound.proofs.Whole.{link_places, thirds_are}
 use native.Mathlib.Omega.{arith}
@@ -21,11 +20,11 @@ third_at-requires c = (
 
 pub returns-then-not-third_at : goal.returns-then-not-third_at
 returns-then-not-third_at c =
-    rw c.loop-i.invariant.1 at (going_no c.loop-i.invariant.0 c.loop-i-test.true c.third_at.ensures (not-true _ c.if-not-third_at.true)) ∙ thirds_are _ c.requires.1 c.requires.2
+    rw c.loop-i.invariant.1 at (going_no c.loop-i.invariant.0 c.loop-i-test.true c.third_at.ensures c.if-not-third_at.true) ∙ thirds_are _ c.requires.1 c.requires.2
 
 pub loop-i-preserved : goal.loop-i-preserved
 loop-i-preserved c =
-    (going_more c.loop-i.invariant.0 c.loop-i-test.true c.third_at.ensures (not-false _ c.if-not-third_at.false), c.loop-i.invariant.1)
+    (going_more c.loop-i.invariant.0 c.loop-i-test.true c.third_at.ensures c.if-not-third_at.false, c.loop-i.invariant.1)
 
 pub returns : goal.returns
 returns c =

@@ -1,6 +1,5 @@
 use mathlib.Core.Path.{refl, sym, ap, ◌∙◌}
 use Prim.Native.Nat.{◌-◌}
-use borrow.Author.Tests.{not-true, not-false}
 use Rattle.model.specs.Lists.{tab}
 use Rattle.model.specs.Cells.{faces, start_of}
 use Rattle.model.specs.Image.{column}
@@ -50,7 +49,7 @@ loop-f-preserved-then-not-is_critical c =
       count_skip (λ l. critical_at c.args.block.now (start_of l))
           (faces (column c.args.block.now 1) (tab (λ p. p) c.args.n)) c.loop-f.f _ c.loop-f.invariant.2
           (omega (arith, c.loop-f-test.true, c.requires.1.count_is))
-          (sym (c.is_critical.ensures ∙ ap (critical_at c.args.block.now) at) ∙ not-true _ c.if-not-is_critical.true),
+          (sym (c.is_critical.ensures ∙ ap (critical_at c.args.block.now) at) ∙ c.if-not-is_critical.true),
     )
 
 pub overflow_add-critical : goal.overflow_add-critical
@@ -69,7 +68,7 @@ loop-f-preserved c =
       count_one (λ l. critical_at c.args.block.now (start_of l))
           (faces (column c.args.block.now 1) (tab (λ p. p) c.args.n)) c.loop-f.f _ c.loop-f.invariant.2
           (omega (arith, c.loop-f-test.true, c.requires.1.count_is))
-          (sym (c.is_critical.ensures ∙ ap (critical_at c.args.block.now) at) ∙ not-false _ c.if-not-is_critical.false),
+          (sym (c.is_critical.ensures ∙ ap (critical_at c.args.block.now) at) ∙ c.if-not-is_critical.false),
     )
 
 pub returns : goal.returns

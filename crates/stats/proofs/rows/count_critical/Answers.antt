@@ -1,6 +1,5 @@
 use mathlib.Core.Path.{sym, ap, ◌∙◌}
 use Prim.Native.Nat.{ℕ, ◌-◌}
-use borrow.Author.Tests.{not-true, not-false}
 use Rattle.stats.specs.Counting.{cell_word}
 use Rattle.stats.proofs.CountLaws.{word_ready, add_ready, word_there, faces_start, faces_few, face_below, faces_skip, faces_more, faces_all}
 use native.Mathlib.Omega.{arith}
@@ -30,7 +29,7 @@ loop-f-smaller-then-not-is_critical c =
 
 pub loop-f-preserved-then-not-is_critical : goal.loop-f-preserved-then-not-is_critical
 loop-f-preserved-then-not-is_critical c =
-    faces_skip c.requires.count_started.0 c.loop-f.invariant c.loop-f-test.true c.start_at-p.ensures (sym c.is_critical.ensures ∙ not-true _ c.if-not-is_critical.true)
+    faces_skip c.requires.count_started.0 c.loop-f.invariant c.loop-f-test.true c.start_at-p.ensures (sym c.is_critical.ensures ∙ c.if-not-is_critical.true)
 
 pub border_word-requires : goal.border_word-requires
 border_word-requires c =
@@ -40,13 +39,13 @@ border_word-requires c =
 pub word_at-requires : goal.word_at-requires
 word_at-requires c =
     let below = face_below c.requires.count_started.0 c.loop-f.invariant c.loop-f-test.true c.start_at-p.ensures in
-    let other = c.requires.count_started.1 _ below (sym c.is_critical.ensures ∙ not-false _ c.if-not-is_critical.false) in
+    let other = c.requires.count_started.1 _ below (sym c.is_critical.ensures ∙ c.if-not-is_critical.false) in
     word_ready c.requires.linked.1 c.requires.linked.0.few below _ (omega (arith, c.border_word.ensures))
 
 pub add_one-requires : goal.add_one-requires
 add_one-requires c =
     let below = face_below c.requires.count_started.0 c.loop-f.invariant c.loop-f-test.true c.start_at-p.ensures in
-    let other = c.requires.count_started.1 _ below (sym c.is_critical.ensures ∙ not-false _ c.if-not-is_critical.false) in
+    let other = c.requires.count_started.1 _ below (sym c.is_critical.ensures ∙ c.if-not-is_critical.false) in
     let few = faces_few c.requires.count_started.0 c.loop-f.invariant in
     add_ready c.requires.linked.1 c.requires.linked.0.few below c.loop-f.invariant.counted few c.border_word.result _ (omega (arith, c.border_word.ensures)) c.word_at.ensures
 
@@ -57,7 +56,7 @@ loop-f-smaller c =
 pub loop-f-preserved : goal.loop-f-preserved
 loop-f-preserved c =
     let below = face_below c.requires.count_started.0 c.loop-f.invariant c.loop-f-test.true c.start_at-p.ensures in
-    let yes-critical = sym c.is_critical.ensures ∙ not-false _ c.if-not-is_critical.false in
+    let yes-critical = sym c.is_critical.ensures ∙ c.if-not-is_critical.false in
     let other = c.requires.count_started.1 _ below yes-critical in
     let there = word_there c.requires.linked.1 c.requires.linked.0.few below c.border_word.result _ (omega (arith, c.border_word.ensures)) c.word_at.ensures in
     faces_more c.requires.count_started.0 c.loop-f.invariant c.loop-f-test.true c.start_at-p.ensures yes-critical
