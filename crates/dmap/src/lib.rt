@@ -1,5 +1,7 @@
 // The public calls: by their Rattle names with an enum for an answer (a crate that calls them lists `dmap answers`), and by their C names with
-// a number, as include/dmap.h declares them. A slice is a pointer and a length there.
+// a number, which the crate `dmap_c` exports.
+#![tactic(auto)]
+
 ghost use Rattle.std.specs.Prelude.{◌≡◌, ◌∷◌, map, length, drop};
 ghost use Rattle.model.specs.Values.{rack, viewer, limits_in};
 ghost use Rattle.model.specs.Calls as calls;
@@ -28,43 +30,37 @@ pub use viewer::{
 };
 pub use writepages::write_pages;
 
-#[unsafe(no_mangle)]
-pub extern "C" fn dmap_empty(number: u64, block: &mut [u64]) -> u32
+pub fn dmap_empty(number: u64, block: &mut [u64]) -> u32
     ensures { AnswerNumbered (calls.empty rack number block.old) result block.new }
 {
     answers::answer_number(memory::header::empty(number, block))
 }
 
-#[unsafe(no_mangle)]
-pub extern "C" fn dmap_read_file(file: &[u8], block: &mut [u64]) -> u32
+pub fn dmap_read_file(file: &[u8], block: &mut [u64]) -> u32
     ensures { AnswerNumbered (calls.read_file rack file.now block.old) result block.new }
 {
     answers::answer_number(readfile::read_file(file, block))
 }
 
-#[unsafe(no_mangle)]
-pub extern "C" fn dmap_save_file(block: &[u64], out: &mut [u8], written: &mut u64) -> u32
+pub fn dmap_save_file(block: &[u64], out: &mut [u8], written: &mut u64) -> u32
     ensures { WrittenCounted (calls.save_file rack block.now out.old) written.old result out.new written.new }
 {
     tell_written(savefile::save_file(block, out), written)
 }
 
-#[unsafe(no_mangle)]
-pub extern "C" fn dmap_write_pages(block: &[u64], out: &mut [u8], written: &mut u64) -> u32
+pub fn dmap_write_pages(block: &[u64], out: &mut [u8], written: &mut u64) -> u32
     ensures { WrittenCounted (calls.write_pages rack block.now out.old) written.old result out.new written.new }
 {
     tell_written(writepages::write_pages(block, out), written)
 }
 
-#[unsafe(no_mangle)]
-pub extern "C" fn dmap_read_pages(pages: &[u8], block: &mut [u64]) -> u32
+pub fn dmap_read_pages(pages: &[u8], block: &mut [u64]) -> u32
     ensures { AnswerNumbered (calls.read_pages rack pages.now block.old) result block.new }
 {
     answers::answer_number(readpages::read_pages(pages, block))
 }
 
-#[unsafe(no_mangle)]
-pub extern "C" fn dmap_send(
+pub fn dmap_send(
     block: &[u64],
     to: u64,
     serial: u64,
@@ -76,37 +72,32 @@ pub extern "C" fn dmap_send(
     tell_written(send::send(block, to, serial, outbox), written)
 }
 
-#[unsafe(no_mangle)]
-pub extern "C" fn dmap_receive(block: &mut [u64], message: &[u8]) -> u32
+pub fn dmap_receive(block: &mut [u64], message: &[u8]) -> u32
     ensures { AnswerNumbered (calls.receive rack block.old message.now) result block.new }
 {
     answers::answer_number(receive::receive(block, message))
 }
 
-#[unsafe(no_mangle)]
-pub extern "C" fn dmap_release(block: &mut [u64], to: u64, serial: u64) -> u32
+pub fn dmap_release(block: &mut [u64], to: u64, serial: u64) -> u32
     ensures { AnswerNumbered (calls.release rack block.old to serial) result block.new }
 {
     answers::answer_number(release::release(block, to, serial))
 }
 
-#[unsafe(no_mangle)]
-pub extern "C" fn dmap_redirect(block: &mut [u64], message: &[u8]) -> u32
+pub fn dmap_redirect(block: &mut [u64], message: &[u8]) -> u32
     ensures { AnswerNumbered (calls.redirect rack block.old message.now) result block.new }
 {
     answers::answer_number(redirect::redirect(block, message))
 }
 
-#[unsafe(no_mangle)]
-pub extern "C" fn dmap_check_mesh(mesh: &[u64], viewers: u32, scratch: &mut [u64]) -> u32
+pub fn dmap_check_mesh(mesh: &[u64], viewers: u32, scratch: &mut [u64]) -> u32
     ensures { AnswerNumbered (calls.check_mesh (limits_in viewers) mesh.now scratch.old) result scratch.new }
 {
     answers::answer_number(checkmesh::check_mesh(mesh, viewers, scratch))
 }
 
 // Bit b of `viewers` says that the block numbered b is a viewer's. Oracle 0 is every volume, 1 the box of two points, 2 the plane on an axis at x0.
-#[unsafe(no_mangle)]
-pub extern "C" fn dmap_next_move(
+pub fn dmap_next_move(
     mesh: &[u64],
     viewers: u32,
     oracle: u32,
@@ -142,43 +133,37 @@ pub extern "C" fn dmap_next_move(
 }
 
 // THE CALLS OF THE OFFICE'S VIEWER, on memory of 2,056 words.
-#[unsafe(no_mangle)]
-pub extern "C" fn dmap_viewer_empty(number: u64, block: &mut [u64]) -> u32
+pub fn dmap_viewer_empty(number: u64, block: &mut [u64]) -> u32
     ensures { AnswerNumbered (calls.empty viewer number block.old) result block.new }
 {
     answers::answer_number(viewer::empty(number, block))
 }
 
-#[unsafe(no_mangle)]
-pub extern "C" fn dmap_viewer_read_file(file: &[u8], block: &mut [u64]) -> u32
+pub fn dmap_viewer_read_file(file: &[u8], block: &mut [u64]) -> u32
     ensures { AnswerNumbered (calls.read_file viewer file.now block.old) result block.new }
 {
     answers::answer_number(viewer::read_file(file, block))
 }
 
-#[unsafe(no_mangle)]
-pub extern "C" fn dmap_viewer_save_file(block: &[u64], out: &mut [u8], written: &mut u64) -> u32
+pub fn dmap_viewer_save_file(block: &[u64], out: &mut [u8], written: &mut u64) -> u32
     ensures { WrittenCounted (calls.save_file viewer block.now out.old) written.old result out.new written.new }
 {
     tell_written(viewer::save_file(block, out), written)
 }
 
-#[unsafe(no_mangle)]
-pub extern "C" fn dmap_viewer_write_pages(block: &[u64], out: &mut [u8], written: &mut u64) -> u32
+pub fn dmap_viewer_write_pages(block: &[u64], out: &mut [u8], written: &mut u64) -> u32
     ensures { WrittenCounted (calls.write_pages viewer block.now out.old) written.old result out.new written.new }
 {
     tell_written(viewer::write_pages(block, out), written)
 }
 
-#[unsafe(no_mangle)]
-pub extern "C" fn dmap_viewer_read_pages(pages: &[u8], block: &mut [u64]) -> u32
+pub fn dmap_viewer_read_pages(pages: &[u8], block: &mut [u64]) -> u32
     ensures { AnswerNumbered (calls.read_pages viewer pages.now block.old) result block.new }
 {
     answers::answer_number(viewer::read_pages(pages, block))
 }
 
-#[unsafe(no_mangle)]
-pub extern "C" fn dmap_viewer_send(
+pub fn dmap_viewer_send(
     block: &[u64],
     to: u64,
     serial: u64,
@@ -190,22 +175,19 @@ pub extern "C" fn dmap_viewer_send(
     tell_written(viewer::send(block, to, serial, outbox), written)
 }
 
-#[unsafe(no_mangle)]
-pub extern "C" fn dmap_viewer_receive(block: &mut [u64], message: &[u8]) -> u32
+pub fn dmap_viewer_receive(block: &mut [u64], message: &[u8]) -> u32
     ensures { AnswerNumbered (calls.receive viewer block.old message.now) result block.new }
 {
     answers::answer_number(viewer::receive(block, message))
 }
 
-#[unsafe(no_mangle)]
-pub extern "C" fn dmap_viewer_release(block: &mut [u64], to: u64, serial: u64) -> u32
+pub fn dmap_viewer_release(block: &mut [u64], to: u64, serial: u64) -> u32
     ensures { AnswerNumbered (calls.release viewer block.old to serial) result block.new }
 {
     answers::answer_number(viewer::release(block, to, serial))
 }
 
-#[unsafe(no_mangle)]
-pub extern "C" fn dmap_viewer_redirect(block: &mut [u64], message: &[u8]) -> u32
+pub fn dmap_viewer_redirect(block: &mut [u64], message: &[u8]) -> u32
     ensures { AnswerNumbered (calls.redirect viewer block.old message.now) result block.new }
 {
     answers::answer_number(viewer::redirect(block, message))
