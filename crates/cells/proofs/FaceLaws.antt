@@ -11,12 +11,12 @@ use lib.Dec.{leb, eqb}
 use lib.ListN.{length, get_or, set, take, length-append, length-set}
 use lib.Seq.{take-suc-set}
 use borrow.Author.Tests.{eqb-true, eqb-false, eq-eqb, ne_eqb, leb-true}
-use Rattle.model.specs.Lists.{all, ascending, keep, concat, distinct, mem, tab}
+use Rattle.model.specs.Lists.{all, ascending, keep, concat, distinct, mem}
 use Rattle.model.specs.Cells.{cycle, faces}
 use Rattle.model.specs.Values.{room}
 use Rattle.model.specs.Links.{placed}
 use Rattle.laws.proofs.Tests.{by_cases, and_left, and_right}
-use Rattle.laws.proofs.Members.{In, in_here, in_there, in_keep, keep_in, all_in, keep_ascending, ascending_distinct, distinct_not, pigeonhole, map_append, none_kept, distinct_fewer, getD_in}
+use Rattle.laws.proofs.Members.{In, in_keep, keep_in, all_in, keep_ascending, ascending_distinct, distinct_not, map_append, none_kept, distinct_fewer, getD_in}
 use Rattle.laws.proofs.Faces.{face_sym, face_stays, face_start, start_in, start_starts, in_faces, faces_only, faces_distinct, order_has, order_only, along_face}
 use Rattle.laws.proofs.Tables.{length_tab, tab_ascending, tab_more}
 use Rattle.cells.specs.Places.{Within, Apart, Clear, Closed, InOrder, Marked, Assigned, Put, bit, marked}

@@ -1,14 +1,14 @@
 -- From places to serials: the serials at the places of a volume, in ascending place, are the model's volume. Assumes nothing.
-use mathlib.Core.Path.{◌≡◌, refl, sym, ◌∙◌, ap}
-use mathlib.Core.Bool.{Bool, true, false, true≢false}
-use mathlib.Core.List.{List, [], ◌∷◌, map}
+use mathlib.Core.Path.{◌≡◌, sym, ◌∙◌, ap}
+use mathlib.Core.Bool.{true≢false}
+use mathlib.Core.List.{List, map}
 use Prim.Native.Nat.{ℕ, ◌<◌}
 use lib.ListN.{length, length-map}
 use Rattle.model.specs.Lists.{keep, mem}
 use Rattle.model.specs.Cells.{volume, volume_in, serials, next_in, opposite_in}
 use Rattle.model.specs.Image.{count_in, column, dart_in}
 use Rattle.laws.proofs.Tests.{by_cases}
-use Rattle.laws.proofs.Members.{In, in_here, in_there, in_eq, in_map, map_in, keep_map, keep_cong}
+use Rattle.laws.proofs.Members.{In, in_eq, in_map, map_in, keep_map, keep_cong}
 use Rattle.laws.proofs.Tables.{map_tab, one_place}
 use Rattle.laws.proofs.Carry.{carry_volume}
 use Rattle.cells.specs.Places.{places_in, volume_of}

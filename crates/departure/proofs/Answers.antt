@@ -65,11 +65,11 @@ module _ {m : List ℕ} {p : ℕ} (site : Sited m) (below : p < count_in m) wher
   within-no most few = lt-leb (length (volume_in (darts_in m) (column m 0 p))) most (omega (arith, volume_size site p below))
 
   pub within-yes : {most t : ℕ} {marks out : List ℕ} → VolumeWalked m p t marks out → t ≤ most → leb (length (volume_in (darts_in m) (column m 0 p))) most ≡ true
-  within-yes {most} w few = le-leb (length (volume_in (darts_in m) (column m 0 p))) most (omega (arith, volume_size site p below, w.size-is))
+  within-yes {most} w few = le-leb (length (volume_in (darts_in m) (column m 0 p))) most (omega (arith, volume_size site p below, w.size_is))
 
   module _ {marks : List ℕ} (mk : Marked (volume_of m p) marks) {out starts : List ℕ} {darts count : ℕ} (o : InOrder (faces_at m marks) out starts darts count) where
     pub as_many : {t : ℕ} {out' : List ℕ} → VolumeWalked m p t marks out' → darts ≡ t
-    as_many w = out_count site p below mk o ∙ volume_size site p below ∙ sym w.size-is
+    as_many w = out_count site p below mk o ∙ volume_size site p below ∙ sym w.size_is
 
     -- what 12 and `unmark-both` ask of the list
     pub list-ready : (darts ≤ room) × (darts ≤ length out) × ((k : ℕ) → k < darts → get_or out k 0 < count_in m)

@@ -1,4 +1,6 @@
 // What is asked before a volume leaves a block: questions 9 to 14. Send and release put them all in a row.
+#![tactic(auto)]
+
 pub mod questions; // questions.rt: 9 to 14 one by one
 
 ghost use Rattle.std.specs.Prelude.{◌≡◌, true, ℕ, ◌≤◌, ◌<◌, length, get_or, take};

@@ -49,7 +49,7 @@ message_order-order-requires c =
     let l = site.linked in
     let listed = walked.0.listed in
     let clear = c.requires.block_in_bounds in
-    record { linked = (l, omega (arith, clear.0, c.volume_within.kept), closed_next l (below) mk, walked.0.size_is ∙ sym (ap length (marked_places mk (count_in m)))); size_nonzero = (listed_some _ listed (volume_linked l (below)).here, listed_marked mk listed, c.requires.block_in_bounds_2.1, clear.2, clear.3) }
+    record { linked = (l, omega (arith, clear.0, c.volume_within.auto), closed_next l (below) mk, walked.0.size_is ∙ sym (ap length (marked_places mk (count_in m)))); size_nonzero = (listed_some _ listed (volume_linked l (below)).here, listed_marked mk listed, c.requires.block_in_bounds_2.1, clear.2, clear.3) }
 
 pub none_sewn_within-requires : goal.none_sewn_within-requires
 none_sewn_within-requires c =
@@ -58,7 +58,7 @@ none_sewn_within-requires c =
     let below = c.requires.block_value.2 in
     let walked = walked_told c.args.limits.volume m _ _ _ c.volume_within.ensures c.in-Volume.is in
     let mk = walked.0.volume_marked in
-    record { linked = (site.linked, omega (arith, c.requires.block_in_bounds.0, c.volume_within.kept)); darts_le_room = list-ready site below mk c.message_order-order.ensures.ordered }
+    record { linked = (site.linked, omega (arith, c.requires.block_in_bounds.0, c.volume_within.auto)); darts_le_room = list-ready site below mk c.message_order-order.ensures.ordered }
 
 pub unmark_both-requires : goal.unmark_both-requires
 unmark_both-requires c =
@@ -68,7 +68,7 @@ unmark_both-requires c =
     let walked = walked_told c.args.limits.volume m _ _ _ c.volume_within.ensures c.in-Volume.is in
     let mk = walked.0.volume_marked in
     let clear = c.requires.block_in_bounds in
-    unmark-both-ready site below mk c.message_order-order.ensures.ordered c.message_order-order.ensures.seen (omega (arith, clear.0, c.volume_within.kept)) (omega (arith, clear.2, c.message_order-order.kept))
+    unmark-both-ready site below mk c.message_order-order.ensures.ordered c.message_order-order.ensures.seen (omega (arith, clear.0, c.volume_within.auto)) (omega (arith, clear.2, c.message_order-order.auto))
 
 pub returns-then-not-none_sewn_within : goal.returns-then-not-none_sewn_within
 unfolding VolumeLeaves
@@ -106,15 +106,15 @@ unmark_both-requires-in_default-pairs_once c =
     let walked = walked_told c.args.limits.volume m _ _ _ c.volume_within.ensures c.in-Volume.is in
     let mk = walked.0.volume_marked in
     let clear = c.requires.block_in_bounds in
-    unmark-both-ready site below mk c.message_order-order.ensures.ordered c.message_order-order.ensures.seen (omega (arith, clear.0, c.volume_within.kept)) (omega (arith, clear.2, c.message_order-order.kept))
+    unmark-both-ready site below mk c.message_order-order.ensures.ordered c.message_order-order.ensures.seen (omega (arith, clear.0, c.volume_within.auto)) (omega (arith, clear.2, c.message_order-order.auto))
 
 pub shape_of-marks-in_default-pairs_once : goal.shape_of-marks-in_default-pairs_once
 shape_of-marks-in_default-pairs_once c =
-    omega (arith, c.unmark_both-in_default-pairs_once.kept, c.volume_within.kept)
+    omega (arith, c.unmark_both-in_default-pairs_once.auto, c.volume_within.auto)
 
 pub shape_of-out-in_default-pairs_once : goal.shape_of-out-in_default-pairs_once
 shape_of-out-in_default-pairs_once c =
-    omega (arith, c.message_order-order.kept, c.volume_within.kept)
+    omega (arith, c.message_order-order.auto, c.volume_within.auto)
 
 pub returns-in_default-pairs_once : goal.returns-in_default-pairs_once
 unfolding VolumeLeaves
@@ -134,7 +134,7 @@ pub counter_fits-requires : goal.counter_fits-requires
 counter_fits-requires c =
     let m = c.args.block.now in
     let site = sited m c.requires.block_value.0 in
-    record { linked = (site.linked, omega (arith, c.requires.block_in_bounds.0, c.volume_within.kept), (ranges_in m c.requires.block_value.0).counter_small); in_order = c.message_order-order.ensures.ordered }
+    record { linked = (site.linked, omega (arith, c.requires.block_in_bounds.0, c.volume_within.auto), (ranges_in m c.requires.block_value.0).counter_small); in_order = c.message_order-order.ensures.ordered }
 
 pub unmark_both-requires-in_default-counter_fits : goal.unmark_both-requires-in_default-counter_fits
 unmark_both-requires-in_default-counter_fits c =
@@ -144,23 +144,23 @@ unmark_both-requires-in_default-counter_fits c =
     let walked = walked_told c.args.limits.volume m _ _ _ c.volume_within.ensures c.in-Volume.is in
     let mk = walked.0.volume_marked in
     let clear = c.requires.block_in_bounds in
-    unmark-both-ready site below mk c.message_order-order.ensures.ordered c.message_order-order.ensures.seen (omega (arith, clear.0, c.volume_within.kept)) (omega (arith, clear.2, c.message_order-order.kept))
+    unmark-both-ready site below mk c.message_order-order.ensures.ordered c.message_order-order.ensures.seen (omega (arith, clear.0, c.volume_within.auto)) (omega (arith, clear.2, c.message_order-order.auto))
 
 pub shape_of-marks-in_default-counter_fits : goal.shape_of-marks-in_default-counter_fits
 shape_of-marks-in_default-counter_fits c =
-    omega (arith, c.unmark_both-in_default-counter_fits.kept, c.volume_within.kept)
+    omega (arith, c.unmark_both-in_default-counter_fits.auto, c.volume_within.auto)
 
 pub shape_of-out-in_default-counter_fits : goal.shape_of-out-in_default-counter_fits
 shape_of-out-in_default-counter_fits c =
-    omega (arith, c.message_order-order.kept, c.volume_within.kept)
+    omega (arith, c.message_order-order.auto, c.volume_within.auto)
 
 pub shape_of-starts-in_default-counter_fits : goal.shape_of-starts-in_default-counter_fits
 shape_of-starts-in_default-counter_fits c =
-    omega (arith, c.message_order-order.kept)
+    omega (arith, c.message_order-order.auto)
 
 pub shape_of-seen-in_default-counter_fits : goal.shape_of-seen-in_default-counter_fits
 shape_of-seen-in_default-counter_fits c =
-    omega (arith, c.unmark_both-in_default-counter_fits.kept, c.message_order-order.kept)
+    omega (arith, c.unmark_both-in_default-counter_fits.auto, c.message_order-order.auto)
 
 pub returns-in_default-counter_fits : goal.returns-in_default-counter_fits
 unfolding VolumeLeaves
@@ -178,11 +178,11 @@ returns-in_default-counter_fits c =
 
 pub shape_of-marks : goal.shape_of-marks
 shape_of-marks c =
-    omega (arith, c.volume_within.kept)
+    omega (arith, c.volume_within.auto)
 
 pub shape_of-out : goal.shape_of-out
 shape_of-out c =
-    omega (arith, c.message_order-order.kept, c.volume_within.kept)
+    omega (arith, c.message_order-order.auto, c.volume_within.auto)
 
 pub returns : goal.returns
 unfolding VolumeLeaves
@@ -195,6 +195,6 @@ returns c =
     let counted = counter_told m _ c.counter_fits.ensures c.in-Faces.is in
     record {
       answer = departs most m site below walked.0 walked.1 c.message_order-order.ensures.ordered (said_yes c.none_sewn_within.ensures c.if-not-none_sewn_within.false)
-          (paired_told m _ _ c.pairs_once.ensures c.in-Once.is) counted.0 counted.1 c.requires.block_value.1 (omega (arith, c.requires.block_in_bounds.0, c.volume_within.kept));
+          (paired_told m _ _ c.pairs_once.ensures c.in-Once.is) counted.0 counted.1 c.requires.block_value.1 (omega (arith, c.requires.block_in_bounds.0, c.volume_within.auto));
       clear = tt;
     }

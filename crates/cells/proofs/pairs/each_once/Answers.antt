@@ -1,7 +1,6 @@
 use mathlib.Core.Path.{sym, ap, ◌∙◌}
-use mathlib.Core.Bool.{true}
 use mathlib.Core.List.{◌∷◌}
-use Prim.Native.Nat.{ℕ, ◌-◌}
+use Prim.Native.Nat.{ℕ}
 use lib.ListN.{length, get_or, length-replicate}
 use Rattle.model.specs.Lists.{distinct}
 use Rattle.model.specs.Image.{column}
@@ -33,7 +32,7 @@ ends_differ-requires c =
         omega (arith, c.loop-a-test.true, c.loop-a.invariant.1),
         omega (arith, c.loop-a.invariant.1, c.requires.1.count_few),
       );
-      by_index = λ q k. (c.requires.1.end_there _ c.loop-a-test.true q k, rw c.loop-a.invariant.1 (c.requires.1.end_Below _ c.loop-a-test.true q k));
+      by_index = λ q k. (c.requires.1.end_there _ c.loop-a-test.true q k, rw c.loop-a.invariant.1 (c.requires.1.end_below _ c.loop-a-test.true q k));
       by_index_2 = c.loop-a.invariant.2;
     }
 

@@ -1,5 +1,5 @@
 use mathlib.Core.Path.{refl, sym, ap, ◌∙◌}
-use Prim.Native.Nat.{ℕ, ◌-◌, ◌<◌}
+use Prim.Native.Nat.{ℕ, ◌<◌}
 use lib.ListN.{length, get_or, length-set}
 use Rattle.model.specs.Cells.{ring}
 use Rattle.cells.proofs.Paths.{round, going_start, going_next}
@@ -69,7 +69,7 @@ returns-then-not-give_colour c =
     let w = step_within _ _ _ l.few l.next_within l.next_apart l.opposite_within l.opposite_apart in
     let r = round l.few w (step_apart _ _ _ l.few l.next_within l.next_apart l.opposite_within l.opposite_apart) _ c.requires.linked.1 in
     let e = ap (λ (z : ℕ). get_or numbers z 0) c.field-q.ensures in
-    let small : get_or numbers c.field-q.result 0 < length c.give_colour.last.0 =
+    let small : get_or numbers c.field-q.result 0 < length c.give_colour.new.colours =
     omega (arith, e, ap length c.give_colour.ensures.coloured ∙ length-set colours _ _, (c.requires.by_index _ (going_in r c.loop-n.invariant.going)).1) in
     let s = coloured_next c.loop-n.invariant.coloured small c.give_colour-in-loop-n.ensures.coloured in
     record { differ = ending_twice w r c.loop-n.invariant e small (sym c.give_colour-in-loop-n.ensures.fresh ∙ c.if-not-give_colour.true); bound = s.bound; size = s.size ∙ ap length c.give_colour.ensures.coloured ∙ length-set colours _ _ }
@@ -98,7 +98,7 @@ returns-then-p-first c =
     let w = step_within _ _ _ l.few l.next_within l.next_apart l.opposite_within l.opposite_apart in
     let r = round l.few w (step_apart _ _ _ l.few l.next_within l.next_apart l.opposite_within l.opposite_apart) _ c.requires.linked.1 in
     let e = ap (λ (z : ℕ). get_or numbers z 0) c.field-q.ensures in
-    let small : get_or numbers c.field-q.result 0 < length c.give_colour.last.0 =
+    let small : get_or numbers c.field-q.result 0 < length c.give_colour.new.colours =
     omega (arith, e, ap length c.give_colour.ensures.coloured ∙ length-set colours _ _, (c.requires.by_index _ (going_in r c.loop-n.invariant.going)).1) in
     let s = coloured_next c.loop-n.invariant.coloured small c.give_colour-in-loop-n.ensures.coloured in
     record { differ = ending_all w r c.loop-n.invariant e small (sym c.give_colour-in-loop-n.ensures.fresh ∙ c.if-not-give_colour.false) c.ring_step-p.ensures c.if-p-first.true; bound = s.bound; size = s.size ∙ ap length c.give_colour.ensures.coloured ∙ length-set colours _ _ }
@@ -116,7 +116,7 @@ loop-n-preserved c =
     let w = step_within _ _ _ l.few l.next_within l.next_apart l.opposite_within l.opposite_apart in
     let r = round l.few w (step_apart _ _ _ l.few l.next_within l.next_apart l.opposite_within l.opposite_apart) _ c.requires.linked.1 in
     let e = ap (λ (z : ℕ). get_or numbers z 0) c.field-q.ensures in
-    let small : get_or numbers c.field-q.result 0 < length c.give_colour.last.0 =
+    let small : get_or numbers c.field-q.result 0 < length c.give_colour.new.colours =
     omega (arith, e, ap length c.give_colour.ensures.coloured ∙ length-set colours _ _, (c.requires.by_index _ (going_in r c.loop-n.invariant.going)).1) in
     ending_more w r c.loop-n.invariant e small (sym c.give_colour-in-loop-n.ensures.fresh ∙ c.if-not-give_colour.false) c.give_colour-in-loop-n.ensures.coloured
     (going_next w r c.loop-n.invariant.going c.ring_step-p.ensures c.if-p-first.false)

@@ -1,4 +1,3 @@
-use Prim.Native.Nat.{◌-◌}
 use Rattle.cells.proofs.Paths.{assign_none}
 use Rattle.cells.proofs.Resets.{assign_listed, assigned_all}
 use native.Mathlib.Omega.{arith}

@@ -1,5 +1,4 @@
 use mathlib.Core.Path.{refl, sym, ap, ◌∙◌}
-use Prim.Native.Nat.{◌-◌}
 use Rattle.model.specs.Cells.{faces, start_of}
 use Rattle.model.specs.Image.{column}
 use Rattle.cells.specs.Places.{marked, sewn_out}

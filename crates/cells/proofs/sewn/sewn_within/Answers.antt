@@ -1,6 +1,4 @@
-use Prim.Native.Nat.{◌-◌}
 use mathlib.Core.Path.{sym, ◌∙◌}
-use mathlib.Core.Bool.{false}
 use lib.ListN.{get_or}
 use Rattle.cells.specs.Places.{sewn_in}
 use Rattle.cells.proofs.SewnLaws.{some_first, none_first, none_more}

@@ -1,5 +1,4 @@
 use mathlib.Core.Path.{refl, ◌∙◌}
-use Prim.Native.Nat.{◌-◌}
 use lib.ListN.{length-set}
 use Rattle.model.specs.Image.{column}
 use Rattle.cells.proofs.RingLaws.{passing_start, passing_skip, passing_new, passing_end, ring_test}

@@ -1,5 +1,4 @@
 use mathlib.Core.Path.{refl}
-use Prim.Native.Nat.{◌-◌}
 use Rattle.cells.proofs.Resets.{lowest_first, lower_next, higher_next, lowest_all}
 use native.Mathlib.Omega.{arith}
 use Rattle.cells.proofs.walk.least_place.Goals as goal

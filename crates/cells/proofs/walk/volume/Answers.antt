@@ -1,4 +1,4 @@
-use Prim.Native.Nat.{◌-◌, ◌<◌}
+use Prim.Native.Nat.{◌<◌}
 use mathlib.Core.Path.{refl, ◌∙◌}
 use Rattle.cells.proofs.Walks.{walk_start, walk_step, walk_mid, walk_end, walk_count, walk_listed, queue_room, visited_lengths}
 use Rattle.cells.proofs.Reached.{volume_linked}

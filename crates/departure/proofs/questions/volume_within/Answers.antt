@@ -8,7 +8,7 @@ pub unmark-requires : goal.unmark-requires
 unmark-requires c =
     let listed = c.volume-size.ensures.listed in
     let few = c.requires.linked.0.few in
-    (omega (arith, listed.few, few), omega (arith, listed.few, listed.size), λ k h. omega (arith, listed.below k h, c.requires.block_in_bounds.1, c.volume-size.kept))
+    (omega (arith, listed.few, few), omega (arith, listed.few, listed.size), λ k h. omega (arith, listed.below k h, c.requires.block_in_bounds.1, c.volume-size.auto))
 
 pub returns-then-most-size : goal.returns-then-most-size
 returns-then-most-size c =
