@@ -6,7 +6,7 @@ use mathlib.Core.List.{List, [], ◌∷◌, ◌++◌}
 use Prim.Native.Nat.{ℕ}
 use native.Mathlib.Omega.{arith}
 use lib.Dec.{eqb}
-use borrow.Author.Tests.{not-true, not-false, eq-eqb, eqb-true}
+use borrow.Author.Tests.{not-true, eq-eqb, eqb-true}
 use Rattle.model.specs.Lists.{all, Check, first_no}
 use Rattle.model.specs.Values.{Limits}
 use Rattle.model.specs.Calls.{Answer, served, refused, Result, asked}
@@ -48,11 +48,11 @@ module _ {A : Type 0} {before after lent : List ℕ} {value : A} where
   ask_end l = record { result = record { answer = refl; left = l } }
 
 -- what a callee said of a test
-pub said_no : {r t : Bool} → r ≡ t → not r ≡ true → t ≡ false
-said_no {r} e h = sym e ∙ not-true r h
+pub said_no : {r t : Bool} → r ≡ t → r ≡ false → t ≡ false
+said_no e h = sym e ∙ h
 
-pub said_yes : {r t : Bool} → r ≡ t → not r ≡ false → t ≡ true
-said_yes {r} e h = sym e ∙ not-false r h
+pub said_yes : {r t : Bool} → r ≡ t → r ≡ true → t ≡ true
+said_yes e h = sym e ∙ h
 
 false_true : ◌≡◌ {A = Bool} false true → ⊥
 false_true e = let z : ◌≡◌ {A = ℕ} 0 1 = cc in omega arith
