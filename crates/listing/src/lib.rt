@@ -1,4 +1,6 @@
 // The listing of a block as text, and what is printed instead: each text is put at the start of an output.
+#![tactic(auto)]
+
 pub mod text; // text.rt: numbers in decimal, and texts
 pub mod lines; // lines.rt: a line for the block, and one for each dart
 

@@ -1,5 +1,7 @@
 // A block that comes from outside: memory with serials where an image has places becomes the block's image, is asked 4 to 8, and is put
 // into the lent memory.
+#![tactic(auto)]
+
 ghost use Rattle.std.specs.Prelude.{◌≡◌, ℕ, ◌≤◌, length, replicate, slice_index};
 ghost use Rattle.model.specs.Sound.{block_checks};
 ghost use Rattle.model.specs.Image.{words_for, block_in};

@@ -1,12 +1,12 @@
 -- The call's answers: questions 1 and 3, then 4 to 8 of the block that the file holds. Assumes nothing.
 use mathlib.Core.Path.{◌≡◌, refl, sym, ap, ◌∙◌}
-use mathlib.Core.Bool.{Bool, true, false, true≢false, not}
+use mathlib.Core.Bool.{Bool, true, false, true≢false}
 use mathlib.Core.List.{List}
 use mathlib.Core.Option.{Option, none, some}
 use Prim.Native.Nat.{ℕ, ◌≤◌}
 use native.Mathlib.Omega.{arith}
 use lib.ListN.{length}
-use borrow.Author.Tests.{eq-eqb, ne_eqb, not-true, not-false}
+use borrow.Author.Tests.{eq-eqb, ne_eqb}
 use Rattle.model.specs.Lists.{is_some}
 use Rattle.model.specs.Values.{room, Block, Limits, widest}
 use Rattle.model.specs.Sound.{ranges_right, block_checks}
@@ -42,14 +42,14 @@ module _ (lim : Limits) (s m : List ℕ) where
   size_refused h = gives _ _ _ _ (ask_no refl (ne_eqb (length m) (words_of lim) h) refl)
 
   module _ (size : length m ≡ words_of lim) {x : List ℕ} {r : Bool} (w : RawRead lim s x r) where
-    pub layout_refused : not r ≡ true → Gives (read_file lim s m) (refused 3) m
+    pub layout_refused : r ≡ false → Gives (read_file lim s m) (refused 3) m
     unfolding read_file storing
-    layout_refused e = gives _ _ _ _ (ask_yes (eq-eqb (length m) (words_of lim) size) (ask_no refl (sym w.answer ∙ not-true r e) refl))
+    layout_refused e = gives _ _ _ _ (ask_yes (eq-eqb (length m) (words_of lim) size) (ask_no refl (sym w.answer ∙ e) refl))
 
     -- a block was read
-    module _ (small : lim.block_darts ≤ room) (e : not r ≡ false) (bytes : Bytes s) where
+    module _ (small : lim.block_darts ≤ room) (e : r ≡ true) (bytes : Bytes s) where
       held : (b : Block) × (whole (file lim) s ≡ some b)
-      held = some_block (whole (file lim) s) (sym (not-false r e) ∙ w.answer)
+      held = some_block (whole (file lim) s) (sym e ∙ w.answer)
 
       b : Block
       b = held.0

@@ -1,4 +1,6 @@
 // Reads a block from a file into its memory.
+#![tactic(auto)]
+
 ghost use Rattle.std.specs.Prelude.{◌≡◌, ℕ, ◌≤◌, length, get_or, replicate};
 ghost use Rattle.model.specs.Values.{room, rack};
 ghost use Rattle.model.specs.Image.{words_of};

@@ -1,4 +1,6 @@
 // Saves a block as a file: where the output could be too short it is put into no output first, which counts its bytes, so that a refusal leaves the output as it was.
+#![tactic(auto)]
+
 pub mod links; // links.rt: what a dart's links name, by serial
 pub mod put; // put.rt: its bytes counted and written
 

@@ -1,4 +1,6 @@
 // Question 2, "is memory given as a block a sound block's image?", and questions 4 to 8 of a block's memory one by one.
+#![tactic(auto)]
+
 pub mod dart; // dart.rt: the tests of one dart
 pub mod questions; // questions.rt: questions 4 to 8, a loop each
 

@@ -28,7 +28,7 @@ put_block-requires c =
     let lim = limits_of c.args.limits in
     let block = c.args.block.now in
     let size = c.if-block-words.false ∙ c.words.ensures in
-    let bytes = byte_list c.args.file.now (λ i. (c.shared_slice_known-1.given i).fits) in
+    let bytes = byte_list c.args.file.now (λ i. (c.type_inv.file i).fits) in
     let long = raw_long lim _ block size c.read_raw.ensures c.requires.block_le_room.0 c.if-not-read_raw.false bytes in
     let ready = raw_ready lim _ block size c.read_raw.ensures c.requires.block_le_room.0 c.if-not-read_raw.false bytes in
     let marks = c.requires.block_in_bounds in
@@ -37,5 +37,5 @@ put_block-requires c =
 
 pub returns : goal.returns
 returns c =
-    let bytes = byte_list c.args.file.now (λ i. (c.shared_slice_known-1.given i).fits) in
+    let bytes = byte_list c.args.file.now (λ i. (c.type_inv.file i).fits) in
     block_put (limits_of c.args.limits) _ _ (c.if-block-words.false ∙ c.words.ensures) c.read_raw.ensures c.requires.block_le_room.0 c.if-not-read_raw.false bytes c.put_block.ensures

@@ -52,4 +52,4 @@ far_right-requires c =
 pub returns : goal.returns
 returns c =
     far_last (limits_of c.args.limits) c.args.block.now c.requires.0 (omega (arith, c.if-block-n.false)) c.header_right.ensures c.if-not-header_right.false
-    c.zeros.ensures c.if-not-zeros.false c.darts_right.ensures c.if-not-darts_right.false c.far_right.last.1.1.0 c.far_right.result c.far_right.ensures
+    c.zeros.ensures c.if-not-zeros.false c.darts_right.ensures c.if-not-darts_right.false _ c.far_right.result c.far_right.ensures

@@ -1,6 +1,5 @@
 use mathlib.Core.Path.{refl, ◌∙◌}
 use native.Mathlib.Numerals.{add-one}
-use Prim.Native.Nat.{◌-◌}
 use lib.ListN.{length-set}
 use Rattle.sound.proofs.Passes.{passing_none, test_no, mark_no, passing_more, passing_end, as_darts, place_no, kind_is, next_below}
 use native.Mathlib.Omega.{arith}

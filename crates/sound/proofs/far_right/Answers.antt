@@ -1,6 +1,5 @@
 use mathlib.Core.Path.{refl, sym}
 use native.Mathlib.Omega.{arith}
-use Prim.Native.Nat.{◌-◌}
 use Rattle.sound.proofs.Passes.{going_none, going_no, going_more, going_end, gather_none, gather_more, gather_end}
 use Rattle.sound.proofs.far_right.Goals as goal
 
@@ -20,7 +19,7 @@ pub loop-i-preserved : goal.loop-i-preserved
 loop-i-preserved c = (
   going_more c.loop-i.invariant.0 c.loop-i-test.true c.far_at.ensures c.if-not-far_at.false,
   gather_more c.loop-i.invariant.1 c.loop-i-test.true c.put_label-c.ensures,
-  omega (arith, c.put_label-c.kept, c.loop-i.invariant.2),
+  omega (arith, c.put_label-c.auto.keys, c.loop-i.invariant.2),
 )
 
 pub shape_of-keys : goal.shape_of-keys

@@ -21,7 +21,7 @@ pub apart_at_rack-requires : goal.apart_at_rack-requires
 apart_at_rack-requires c =
     let few = (rw c.in-Right.is at c.but_labels.ensures).0 in
     let fits = rack_fits _ c.rack.ensures in
-    (omega (arith, few, fits), omega (arith, few, fits, c.but_labels.kept))
+    (omega (arith, few, fits), omega (arith, few, fits, c.but_labels.auto.keys))
 
 pub returns : goal.returns
 returns c =

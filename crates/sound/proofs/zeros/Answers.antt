@@ -1,4 +1,3 @@
-use Prim.Native.Nat.{◌-◌}
 use Rattle.sound.proofs.Passes.{zeroing_none, zeroing_more, zeroing_end}
 use native.Mathlib.Omega.{arith}
 use Rattle.sound.proofs.zeros.Goals as goal

@@ -43,43 +43,41 @@ put_number-past_opposite-requires c =
 
 pub put_third-past_third-requires : goal.put_third-past_third-requires
 put_third-past_third-requires c =
-    let start : tie.Start = (search) in
-    let block = start.args.block.now in
-    let p' = start.args.p.0 in
+    let block = c.args.block.now in
+    let p' = c.args.p.0 in
     let a = rw c.field.ensures at c.put_number-past_serial.ensures in
-    let p = stored_past 11 a (ended_most 10 (column block 0 p') 32 (decimal_ten (column block 0 p') start.pre.0.serial_small)) in
+    let p = stored_past 11 a (ended_most 10 (column block 0 p') 32 (decimal_ten (column block 0 p') c.requires.0.serial_small)) in
     let b = rw c.serial_along.ensures at c.put_number-past_next.ensures in
     let q =
     stored_past 11 b
     (ended_most 10 (column block 0 (column block 1 p')) 32
-    (decimal_ten (column block 0 (column block 1 p')) start.pre.0.next_small)) in
+    (decimal_ten (column block 0 (column block 1 p')) c.requires.0.next_small)) in
     let d = rw c.serial_along-2.ensures at c.put_number-past_opposite.ensures in
     let r =
     stored_past 11 d
     (ended_most 10 (column block 0 (column block 2 p')) 32
-    (decimal_ten (column block 0 (column block 2 p')) start.pre.0.opposite_small)) in
-    rw (c.field-kind.ensures, c.third_along.ensures) (start.pre.0.third_small, omega (arith, start.pre.1))
+    (decimal_ten (column block 0 (column block 2 p')) c.requires.0.opposite_small)) in
+    rw (c.field-kind.ensures, c.third_along.ensures) (c.requires.0.third_small, omega (arith, c.requires.1))
 
 pub put_byte-requires : goal.put_byte-requires
 put_byte-requires c =
-    let start : tie.Start = (search) in
-    let block = start.args.block.now in
-    let p' = start.args.p.0 in
+    let block = c.args.block.now in
+    let p' = c.args.p.0 in
     let a = rw c.field.ensures at c.put_number-past_serial.ensures in
-    let p = stored_past 11 a (ended_most 10 (column block 0 p') 32 (decimal_ten (column block 0 p') start.pre.0.serial_small)) in
+    let p = stored_past 11 a (ended_most 10 (column block 0 p') 32 (decimal_ten (column block 0 p') c.requires.0.serial_small)) in
     let b = rw c.serial_along.ensures at c.put_number-past_next.ensures in
     let q =
     stored_past 11 b
     (ended_most 10 (column block 0 (column block 1 p')) 32
-    (decimal_ten (column block 0 (column block 1 p')) start.pre.0.next_small)) in
+    (decimal_ten (column block 0 (column block 1 p')) c.requires.0.next_small)) in
     let d = rw c.serial_along-2.ensures at c.put_number-past_opposite.ensures in
     let r =
     stored_past 11 d
     (ended_most 10 (column block 0 (column block 2 p')) 32
-    (decimal_ten (column block 0 (column block 2 p')) start.pre.0.opposite_small)) in
+    (decimal_ten (column block 0 (column block 2 p')) c.requires.0.opposite_small)) in
     let t = rw (c.field-kind.ensures, c.third_along.ensures) at c.put_third-past_third.ensures in
-    let s = stored_past 26 t (third_short start.pre.0.third_small) in
-    omega (arith, start.pre.1)
+    let s = stored_past 26 t (third_short c.requires.0.third_small) in
+    omega (arith, c.requires.1)
 
 pub returns : goal.returns
 returns c =

@@ -1,4 +1,3 @@
-use Prim.Native.Nat.{◌-◌}
 use Rattle.groups.proofs.Writing.{stored_length}
 use Rattle.model.specs.Listing.{dart_line}
 use Rattle.savefile.proofs.Pieces.{place_none, place_more, place_all, in_pieces}

@@ -36,12 +36,11 @@ put_decimal-past_count-requires c =
 
 pub put_text-past_counter-requires : goal.put_text-past_counter-requires
 put_text-past_counter-requires c =
-    let start : tie.Start = (search) in
     let p = stored_past 6 c.put_text-past_block.ensures (omega arith) in
-    let q = stored_past 2 c.put_decimal-past_number.ensures (block_short start.args.block.now start.pre.0) in
+    let q = stored_past 2 c.put_decimal-past_number.ensures (block_short c.args.block.now c.requires.0) in
     let r = stored_past 7 c.put_text-past_darts.ensures (omega arith) in
-    let s = stored_past 4 c.put_decimal-past_count.ensures (count_short start.args.block.now start.pre.0) in
-    omega (arith, start.pre.1)
+    let s = stored_past 4 c.put_decimal-past_count.ensures (count_short c.args.block.now c.requires.0) in
+    omega (arith, c.requires.1)
 
 pub bounds-block-1 : goal.bounds-block-1
 bounds-block-1 c =
@@ -49,13 +48,12 @@ bounds-block-1 c =
 
 pub put_number-requires : goal.put_number-requires
 put_number-requires c =
-    let start : tie.Start = (search) in
     let p = stored_past 6 c.put_text-past_block.ensures (omega arith) in
-    let q = stored_past 2 c.put_decimal-past_number.ensures (block_short start.args.block.now start.pre.0) in
+    let q = stored_past 2 c.put_decimal-past_number.ensures (block_short c.args.block.now c.requires.0) in
     let r = stored_past 7 c.put_text-past_darts.ensures (omega arith) in
-    let s = stored_past 4 c.put_decimal-past_count.ensures (count_short start.args.block.now start.pre.0) in
+    let s = stored_past 4 c.put_decimal-past_count.ensures (count_short c.args.block.now c.requires.0) in
     let t = stored_past 9 c.put_text-past_counter.ensures (omega arith) in
-    (counter_small start.args.block.now start.pre.0, omega (arith, counter_short start.args.block.now start.pre.0, start.pre.1))
+    (counter_small c.args.block.now c.requires.0, omega (arith, counter_short c.args.block.now c.requires.0, c.requires.1))
 
 pub returns : goal.returns
 unfolding bytes

@@ -1,4 +1,3 @@
-use Prim.Native.Nat.{◌-◌}
 use Rattle.groups.proofs.Writing.{stored_length}
 use Rattle.listing.proofs.Copies.{copy_none, copy_fits, copy_more, copy_all}
 use Rattle.listing.proofs.text.put_text.Goals as goal

@@ -1,4 +1,4 @@
-use Rattle.std.proofs.Common.{◌-◌, ◌∙◌, arith}
+use Rattle.std.proofs.Common.{◌∙◌, arith}
 use Rattle.newblock.proofs.Imaged.{serials_ascend, resolved_is}
 use Rattle.newblock.proofs.Resolving.{placing_start, placing_length, placing_ascends, placing_more, placing_ends}
 use Rattle.newblock.proofs.place.place_all.Goals as goal

@@ -1,4 +1,3 @@
-use Prim.Native.Nat.{◌-◌}
 use mathlib.Core.Path.{◌∙◌}
 use Rattle.readfile.proofs.Storing.{fill_start, fill_length, fill_more, fill_fails, fill_ends}
 use native.Mathlib.Omega.{arith}
@@ -14,7 +13,7 @@ store_dart-requires c =
 
 pub shape_of-block-in_default : goal.shape_of-block-in_default
 shape_of-block-in_default c =
-    c.store_dart.kept.1.1.1.0 ∙ fill_length c.loop-i.invariant (omega arith)
+    c.store_dart.auto.block ∙ fill_length c.loop-i.invariant (omega arith)
 
 pub returns-in_default : goal.returns-in_default
 returns-in_default c =

@@ -52,12 +52,11 @@ returns-then-past-file c =
 
 pub write-requires : goal.write-requires
 write-requires c =
-    omega (arith, c.read_darts.kept.1.1.1.0, zeros_length (words_of (limits_of c.args.limits)) _ c.requires)
+    omega (arith, c.read_darts.auto.block, zeros_length (words_of (limits_of c.args.limits)) _ c.requires)
 
 pub returns : goal.returns
 returns c =
-    let start : tie.Start = (search) in
-    raw_served (limits_of start.args.limits) (took_at_most 15 (sym c.in-Value.is ∙ c.read_at_most.ensures))
+    raw_served (limits_of c.args.limits) (took_at_most 15 (sym c.in-Value.is ∙ c.read_at_most.ensures))
     (took_group (sym c.in-Value-read_group.is ∙ c.read_group.ensures))
-    (took_group (sym c.in-Value-read_group-2.is ∙ c.read_group-2.ensures)) (omega arith) _ start.pre
+    (took_group (sym c.in-Value-read_group-2.is ∙ c.read_group-2.ensures)) (omega arith) _ c.requires
     (rw c.in-At.is at c.read_darts.ensures) (omega arith) c.write.ensures

@@ -1,4 +1,3 @@
-use Prim.Native.Nat.{◌-◌}
 use Rattle.groups.proofs.Writing.{stored_length}
 use Rattle.savefile.proofs.Pieces.{lay_none, lay_within, lay_more, lay_all}
 use Rattle.savefile.proofs.FileBytes.{darts_put}

@@ -1,5 +1,4 @@
 use mathlib.Core.Path.{refl, ◌∙◌}
-use Prim.Native.Nat.{◌-◌}
 use Rattle.columns.proofs.Points.{finite_is}
 use Rattle.sound.proofs.Passes.{going_none, going_no, going_more, going_end}
 use native.Mathlib.Omega.{arith}

@@ -1,5 +1,4 @@
 use mathlib.Core.Path.{refl}
-use Prim.Native.Nat.{◌-◌}
 use native.Mathlib.Omega.{arith}
 use Rattle.sound.proofs.Passes.{gather_none, gather_more, gather_end}
 use Rattle.sound.proofs.questions.gather.Goals as goal
@@ -10,7 +9,7 @@ loop-i-init c =
 
 pub loop-i-preserved : goal.loop-i-preserved
 loop-i-preserved c =
-    (gather_more c.loop-i.invariant.0 c.loop-i-test.true c.put_label-c.ensures, omega (arith, c.put_label-c.kept, c.loop-i.invariant.1))
+    (gather_more c.loop-i.invariant.0 c.loop-i-test.true c.put_label-c.ensures, omega (arith, c.put_label-c.auto.keys, c.loop-i.invariant.1))
 
 pub shape_of-keys : goal.shape_of-keys
 shape_of-keys c =

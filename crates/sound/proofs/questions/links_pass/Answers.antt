@@ -1,5 +1,4 @@
 use mathlib.Core.Path.{refl, ◌∙◌}
-use Prim.Native.Nat.{◌-◌}
 use lib.ListN.{length-set}
 use Rattle.sound.proofs.Passes.{passing_none, test_no, mark_no, passing_more, passing_end, as_links, link_below}
 use native.Mathlib.Omega.{arith}
