@@ -1,15 +1,15 @@
 -- A surveyed volume of a sound block has what the functions ask of its arrays. Assumes nothing.
 use mathlib.Core.Path.{◌≡◌, sym, ap, ◌∙◌}
-use mathlib.Core.Bool.{Bool, true, ◌&&◌}
+use mathlib.Core.Bool.{true, ◌&&◌}
 use mathlib.Core.List.{List, [], ◌∷◌}
-use Prim.Native.Nat.{ℕ, zero, suc, ◌+◌, ◌*◌, ◌≤◌, ◌<◌, ◌^◌}
+use Prim.Native.Nat.{ℕ, suc, ◌≤◌, ◌<◌, ◌^◌}
 use native.Mathlib.Omega.{arith}
 use lib.Dec.{leb, ltb}
 use lib.ListN.{length, get_or, take, length-append}
 use lib.Seq.{get_or-take, length-take-le}
 use borrow.Author.Tests.{leb-true, ltb-true}
 use Rattle.model.specs.Lists.{concat, mem}
-use Rattle.model.specs.Values.{Third, free, sewn, critical, Label, serial_bound, finite, finite_bits, room}
+use Rattle.model.specs.Values.{Third, free, sewn, critical, serial_bound, finite, finite_bits}
 use Rattle.model.specs.Sound.{third_in_range, dart_in_range, coordinates_finite}
 use Rattle.model.specs.Image.{count_in, column, dart_in, dart_words, kind_word, holds_block}
 use Rattle.laws.proofs.Tests.{and_left, and_right}
@@ -17,7 +17,7 @@ use Rattle.laws.proofs.Members.{In, getD_in}
 use Rattle.laws.proofs.Tables.{all_tab}
 use Rattle.memory.specs.Point.{FiniteAt}
 use Rattle.cells.specs.Places.{Linked}
-use Rattle.cells.proofs.Sited.{Sited, parts, read, sited, word_is}
+use Rattle.cells.proofs.Sited.{parts, read, sited, word_is}
 use Rattle.cells.proofs.StartLaws.{face_at, start_place}
 use Rattle.cells.proofs.PairsNumbered.{number_below}
 use Rattle.cells.proofs.VolumeReady.{out_below, out_long, out_whole}

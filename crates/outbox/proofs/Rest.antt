@@ -5,7 +5,7 @@ use Prim.Native.Nat.{ℕ, suc, ◌+◌, ◌-◌, ◌≤◌}
 use native.Mathlib.Nat.{add-zero, add-suc, le-add_right}
 use native.Mathlib.Omega.{arith}
 use lib.ListN.{length, take, drop, set, take-append-drop, drop_of_length-le, length-drop}
-use lib.Seq.{sets, drop-set-add, take-set-le, take_all}
+use lib.Seq.{sets, drop-set-add, take-set-le}
 use borrow.Rule.Slice.PartMut.{put_mid}
 use Rattle.groups.specs.Slices.{Stored}
 use Rattle.laws.proofs.Lists.{rest_whole}

@@ -1,6 +1,6 @@
 -- The bytes of each entry of a transfer, by the arrays of a volume: `order` has its darts as places in message order, `starts` the
 -- index of each face's start. And what the functions that put them ask of the arrays. Assumes nothing.
-use Rattle.std.specs.Prelude.{Bool, cond, List, [], ◌++◌, ℕ, ◌+◌, ◌-◌, ◌/◌, ◌≤◌, ◌<◌, ◌^◌, ltb, length, get_or}
+use Rattle.std.specs.Prelude.{Bool, cond, List, [], ◌++◌, ℕ, ◌+◌, ◌-◌, ◌/◌, ◌≤◌, ◌<◌, ltb, length, get_or}
 use Rattle.model.specs.Values.{serial_bound, room, message_darts}
 use Rattle.model.specs.Layouts.{group}
 use Rattle.model.specs.Messages.{point, label, face_dart, part2, part3}

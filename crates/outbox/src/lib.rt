@@ -1,4 +1,6 @@
 // The bytes of a transfer and of the updates, from the arrays of a volume that leaves: how many they are, and put into the outbox.
+#![tactic(auto)]
+
 pub mod first; // first.rt: the points and the faces
 pub mod parts; // parts.rt: parts 2, 3 and 4
 pub mod transfer; // transfer.rt: the whole transfer

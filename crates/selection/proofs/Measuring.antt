@@ -1,12 +1,12 @@
 -- What is measured at a place: a place that no mark is on starts a volume, and its points tell whether it is picked. Assumes nothing.
 use mathlib.Core.Path.{◌≡◌, refl, sym, ap, ◌∙◌, subst}
-use mathlib.Core.Bool.{Bool, true, false, true≢false, cond, not, ◌&&◌}
+use mathlib.Core.Bool.{Bool, true, false, true≢false, cond, ◌&&◌}
 use mathlib.Core.List.{List, [], ◌∷◌, map}
 use Prim.Native.Nat.{ℕ, ◌+◌, ◌-◌, ◌<◌}
 use native.Mathlib.Omega.{arith}
 use lib.Dec.{leb}
 use lib.ListN.{length, get_or, length-map}
-use borrow.Author.Tests.{le-leb, leb-true, not-true, not-false}
+use borrow.Author.Tests.{le-leb, leb-true}
 use Rattle.model.specs.Lists.{any, mem}
 use Rattle.model.specs.Values.{Point}
 use Rattle.model.specs.Balance.{Oracle, every, box, plane, picks}
@@ -115,19 +115,19 @@ module _ {m : List ℕ} (o : Oracle) (wk : Walkable m) {p : ℕ} (h : p < get_or
           (λ e. let b = th.behind q (sym (ap (λ (t : Bool). cond t 1 (get_or marks q 0)) e) ∙ sym (a.mark q) ∙ k) in (b.0, omega (arith, b.1), b.2));
     }
 
-    pub measured_first : {r : Bool} → SomePicked (holds_at o false m) order' tail tail' r → not r ≡ true → Measures o m p (record { tail = tail'; size = 0 }) marks' order'
-    measured_first {r} s e = record { through = next; size_is = no_size (none (is_start m p) (picked_by (some_any a inside s ∙ not-true r e) refl)) }
+    pub measured_first : {r : Bool} → SomePicked (holds_at o false m) order' tail tail' r → r ≡ false → Measures o m p (record { tail = tail'; size = 0 }) marks' order'
+    measured_first {r} s e = record { through = next; size_is = no_size (none (is_start m p) (picked_by (some_any a inside s ∙ e) refl)) }
       where
         none : (b : Bool) {x : Bool} → x ≡ false → (b && x) ≡ false
         none true q = q
         none false q = refl
 
-    module _ {r : Bool} (s : SomePicked (holds_at o false m) order' tail tail' r) (e : not r ≡ false) {r' : Bool} (s' : SomePicked (holds_at o true m) order' tail tail' r') where
+    module _ {r : Bool} (s : SomePicked (holds_at o false m) order' tail tail' r) (e : r ≡ true) {r' : Bool} (s' : SomePicked (holds_at o true m) order' tail tail' r') where
       picked_is : is_picked o m p ≡ r'
-      picked_is = picked_by (some_any a inside s ∙ not-false r e) (some_any a inside s')
+      picked_is = picked_by (some_any a inside s ∙ e) (some_any a inside s')
 
-      pub measured_second : not r' ≡ true → Measures o m p (record { tail = tail'; size = 0 }) marks' order'
-      measured_second e' = record { through = next; size_is = no_size (none (is_start m p) (picked_is ∙ not-true r' e')) }
+      pub measured_second : r' ≡ false → Measures o m p (record { tail = tail'; size = 0 }) marks' order'
+      measured_second e' = record { through = next; size_is = no_size (none (is_start m p) (picked_is ∙ e')) }
         where
           none : (b : Bool) {x : Bool} → x ≡ false → (b && x) ≡ false
           none true q = q
@@ -140,5 +140,5 @@ module _ {m : List ℕ} (o : Oracle) (wk : Walkable m) {p : ℕ} (h : p < get_or
           full : (t : Bool) → t ≡ true → (x : ℕ) → cond t x 0 ≡ x
           full t q x = rw q refl
 
-      pub measured : not r' ≡ false → Measures o m p (record { tail = tail'; size = tail' - tail }) marks' order'
-      measured e' = record { through = next; size_is = omega (arith, a.size, whole (not-false r' e')) }
+      pub measured : r' ≡ true → Measures o m p (record { tail = tail'; size = tail' - tail }) marks' order'
+      measured e' = record { through = next; size_is = omega (arith, a.size, whole e') }

@@ -1,4 +1,3 @@
-use Prim.Native.Nat.{◌-◌}
 use mathlib.Core.Path.{ap, ◌∙◌}
 use Rattle.model.specs.Image.{column}
 use Rattle.cells.proofs.Walks.{queue_room}

@@ -27,11 +27,11 @@ some-requires c =
 
 pub shape_of-order-then-not-some : goal.shape_of-order-then-not-some
 shape_of-order-then-not-some c =
-    omega (arith, c.add_volume-end.kept)
+    omega (arith, c.add_volume-end.auto)
 
 pub shape_of-marks-then-not-some : goal.shape_of-marks-then-not-some
 shape_of-marks-then-not-some c =
-    omega (arith, c.add_volume-end.kept)
+    omega (arith, c.add_volume-end.auto)
 
 pub returns-then-not-some : goal.returns-then-not-some
 returns-then-not-some c =
@@ -46,11 +46,11 @@ some-requires-2 c =
 
 pub shape_of-order-then-not-some-2 : goal.shape_of-order-then-not-some-2
 shape_of-order-then-not-some-2 c =
-    omega (arith, c.add_volume-end.kept)
+    omega (arith, c.add_volume-end.auto)
 
 pub shape_of-marks-then-not-some-2 : goal.shape_of-marks-then-not-some-2
 shape_of-marks-then-not-some-2 c =
-    omega (arith, c.add_volume-end.kept)
+    omega (arith, c.add_volume-end.auto)
 
 pub returns-then-not-some-2 : goal.returns-then-not-some-2
 returns-then-not-some-2 c =
@@ -64,11 +64,11 @@ overflow_sub-result c =
 
 pub shape_of-order : goal.shape_of-order
 shape_of-order c =
-    omega (arith, c.add_volume-end.kept)
+    omega (arith, c.add_volume-end.auto)
 
 pub shape_of-marks : goal.shape_of-marks
 shape_of-marks c =
-    omega (arith, c.add_volume-end.kept)
+    omega (arith, c.add_volume-end.auto)
 
 pub returns : goal.returns
 returns c =

@@ -1,4 +1,3 @@
-use Prim.Native.Nat.{◌-◌}
 use mathlib.Core.Path.{refl, ◌∙◌}
 use lib.ListN.{length-set}
 use Rattle.selection.proofs.Loops.{measuring_start, measuring_next, measured_all}
@@ -37,8 +36,8 @@ pub loop-p-preserved : goal.loop-p-preserved
 loop-p-preserved c = (
   measuring_next c.loop-p.invariant.0 c.loop-p-test.true c.measure-m.ensures.through c.measure-m.ensures.size_is,
   length-set c.loop-p.sizes _ _ ∙ c.loop-p.invariant.1,
-  omega (arith, c.measure-m.kept, c.loop-p.invariant.2),
-  omega (arith, c.measure-m.kept, c.loop-p.invariant.3),
+  omega (arith, c.measure-m.auto, c.loop-p.invariant.2),
+  omega (arith, c.measure-m.auto, c.loop-p.invariant.3),
 )
 
 pub shape_of-sizes : goal.shape_of-sizes

@@ -1,4 +1,3 @@
-use Prim.Native.Nat.{◌-◌}
 use mathlib.Core.Path.{sym, subst}
 use Rattle.memory.specs.Point.{FiniteAt}
 use Rattle.oracle.specs.Oracle.{oracle_of}

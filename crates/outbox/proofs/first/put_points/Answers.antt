@@ -1,4 +1,3 @@
-use Prim.Native.Nat.{◌-◌}
 use Rattle.codec.proofs.EntryLaws.{stored_as}
 use Rattle.outbox.proofs.Running.{running_start, running_size, running_end, running_space, running_step}
 use Rattle.outbox.proofs.BytesLaws.{point_fine, point_is, point_put_length}

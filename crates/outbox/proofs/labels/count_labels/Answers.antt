@@ -1,5 +1,5 @@
 use mathlib.Core.Path.{ap, ◌∙◌, sym}
-use Prim.Native.Nat.{◌-◌, ◌<◌}
+use Prim.Native.Nat.{◌<◌}
 use borrow.Author.Tests.{eqb-true, eqb-false}
 use lib.ListN.{length, get_or}
 use Rattle.model.specs.Image.{label_in}

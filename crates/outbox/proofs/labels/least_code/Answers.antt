@@ -1,5 +1,5 @@
 use mathlib.Core.Path.{◌≡◌, ap, ◌∙◌}
-use Prim.Native.Nat.{◌+◌, ◌-◌}
+use Prim.Native.Nat.{◌+◌}
 use Rattle.outbox.specs.ByBlocks.{least_code}
 use Rattle.outbox.proofs.LeastLaws.{least_start, least_step}
 use native.Mathlib.Omega.{arith}

@@ -1,4 +1,3 @@
-use Prim.Native.Nat.{◌-◌}
 use Rattle.answers.proofs.Questions.{said_no, said_yes}
 use Rattle.outbox.proofs.Running.{tallied_start, tallied_few, tallied_end, tallied_step, tallied_skip}
 use native.Mathlib.Omega.{arith}

@@ -1,5 +1,5 @@
 use mathlib.Core.Path.{ap}
-use Prim.Native.Nat.{◌+◌, ◌-◌}
+use Prim.Native.Nat.{◌+◌}
 use lib.ListN.{length}
 use Rattle.codec.proofs.EntryLaws.{stored_as}
 use Rattle.outbox.proofs.Running.{running_start, running_size, running_end, running_space, running_step}

@@ -1,5 +1,4 @@
 use mathlib.Core.Path.{ap}
-use Prim.Native.Nat.{◌-◌}
 use lib.ListN.{length, get_or}
 use Rattle.answers.proofs.Questions.{said_no, said_yes}
 use Rattle.codec.proofs.EntryLaws.{stored_as}

@@ -1,5 +1,4 @@
 use mathlib.Core.Path.{ap}
-use Prim.Native.Nat.{◌-◌}
 use lib.ListN.{length}
 use Rattle.answers.proofs.Questions.{said_no, said_yes}
 use Rattle.departure.proofs.FirstNo.{ranges_in}
@@ -56,6 +55,10 @@ loop-k-preserved-then-not-relative c =
 
 pub slice_bounds-rest-count : goal.slice_bounds-rest-count
 slice_bounds-rest-count c =
+    omega (arith, running_within c.loop-k.invariant c.loop-k-test.true, running_size c.loop-k.invariant, c.requires.faces_in_bounds)
+
+pub slice_bounds-rest-start : goal.slice_bounds-rest-start
+slice_bounds-rest-start c =
     omega (arith, running_within c.loop-k.invariant c.loop-k-test.true, running_size c.loop-k.invariant, c.requires.faces_in_bounds)
 
 pub put_update-at-requires : goal.put_update-at-requires

@@ -1,5 +1,4 @@
 use mathlib.Core.Path.{◌≡◌, ap, ◌∙◌}
-use Prim.Native.Nat.{◌-◌}
 use Rattle.outbox.specs.ByBlocks.{sizes_for}
 use Rattle.outbox.proofs.UpdateLaws.{sizes_start, sizes_more}
 use native.Mathlib.Omega.{arith}
