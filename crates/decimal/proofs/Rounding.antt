@@ -8,7 +8,7 @@ use native.Mathlib.Nat.{mul-sub}
 use native.Mathlib.Nat.{div-div-eq-div-mul, pow-le-pow_right, one-le-pow}
 use lib.Dec.{is_le, compare_is_eq, nleb→lt}
 use lib.Pow.{pow-lt}
-use lib.Ieee.{Float, nan, inf, fin, Format, binary32, binary64, prec, emax, low, up, down, size, nearest, round, units, fits}
+use lib.Ieee.{Float, nan, inf, fin, Format, binary32, binary64, prec, emax, low, up, down, size, nearest, round, fits}
 use lib.Ieee.Digits.{size-le, size_reaches}
 use lib.Ieee.Fits.{round_is, nearest-le, kept-lt, and_l, and_r, two, two-le_pos}
 use lib.Ieee.Exact.{HasValue, units_val}

@@ -8,7 +8,6 @@ use Rattle.commands.specs.Words.{number_in, leading}
 use Rattle.commands.specs.declared.words.Number.{Number}
 use Rattle.commands.specs.declared.words.Number.TheVariants as number
 use Rattle.commands.proofs.Scans.{leading_on, leading_stop, leading_end, leading_start}
-use Rattle.decimal.specs.declared.Decimal.{Decimal}
 use Rattle.decimal.specs.declared.Digits.{Digits}
 use Rattle.decimal.specs.declared.Power.{Power}
 use Rattle.decimal.specs.declared.Power.TheVariants as power

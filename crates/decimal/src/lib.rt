@@ -4,6 +4,8 @@
 // or two digits. Its digits are one whole number below 10^15, and the power of ten that scales it is 22 at most in size: both are
 // floats exactly, so that one multiplication or one division gives the float nearest to the decimal. What is longer, or scaled
 // further, is refused.
+#![tactic(auto)]
+
 ghost use Rattle.std.specs.Prelude.{◌≡◌, ◌+◌, ◌*◌, ◌^◌, ◌<◌, ◌≤◌, true, false, if◌then◌else◌};
 ghost use Rattle.std.specs.Float.{binary64};
 ghost use Rattle.std.specs.Float.Ieee.{neg, round};

@@ -1,4 +1,6 @@
 // The oracle that picks volumes: every volume, a box of two points, or a plane given by an axis and a value.
+#![tactic(auto)]
+
 ghost use Rattle.std.specs.Prelude.{◌≡◌};
 ghost use Rattle.std.specs.Float.{binary64};
 ghost use Rattle.std.specs.Float.Ieee.{to_bits};

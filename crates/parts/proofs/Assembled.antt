@@ -6,7 +6,7 @@ use mathlib.Core.Logic.{◌⊎◌, ⊎_elim, inl, inr}
 use Prim.Native.Nat.{ℕ, ◌/◌, ◌+◌, ◌*◌, ◌-◌, ◌≤◌, ◌<◌, ◌^◌}
 use native.Mathlib.Omega.{arith}
 use lib.Dec.{eqb, ltb}
-use lib.ListN.{length, get_or, take, drop, length-map, replicate}
+use lib.ListN.{length, get_or, take, drop, length-map}
 use lib.Seq.{get_or-take}
 use borrow.Author.Tests.{eqb-true, ltb-true, le-leb, not-true}
 use Rattle.model.specs.Lists.{all, mem, ascending, tab, concat_map}
@@ -15,7 +15,6 @@ use Rattle.model.specs.Layouts.{Layout, times}
 use Rattle.model.specs.Messages.{Part3, Transfer, size_all, part2, part3, part4}
 use Rattle.model.specs.Image.{is_critical_word}
 use Rattle.model.specs.Arrival.{face_from, indices_right, consecutive, critical_links}
-use Rattle.laws.proofs.Lists.{getD_zeros}
 use Rattle.laws.proofs.Tests.{by_cases, and_left, and_right, and_intro, lt_or_ge}
 use Rattle.laws.proofs.Maps.{map_at}
 use Rattle.laws.proofs.Members.{In, all_in, all_from, append_in, in_append_right, distinct_append, ascending_distinct}

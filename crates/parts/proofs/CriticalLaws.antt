@@ -5,16 +5,14 @@ use mathlib.Core.List.{List, ◌++◌}
 use Prim.Native.Nat.{ℕ, ◌+◌, ◌*◌, ◌-◌, ◌≤◌, ◌<◌, ◌^◌}
 use native.Mathlib.Omega.{arith}
 use lib.Dec.{eqb, leb}
-use lib.ListN.{length, get_or, take, replicate}
+use lib.ListN.{length, get_or, take}
 use borrow.Author.Tests.{leb-true}
 use Rattle.model.specs.Values.{message_darts}
 use Rattle.model.specs.Lists.{all, tab, concat_map}
 use Rattle.model.specs.Image.{column, block_in, holds_block}
 use Rattle.model.specs.Messages.{FaceDart, Transfer, part2, part3}
 use Rattle.model.specs.Arrival.{indices_right, consecutive, labels_new, critical_links}
-use Rattle.laws.proofs.Lists.{getD_zeros}
 use Rattle.laws.proofs.Tests.{and_left, and_right}
-use Rattle.columns.specs.Columns.{count}
 use Rattle.columns.proofs.Question.{image_passed}
 use Rattle.inbox.specs.Inbox.{Sized}
 use Rattle.inbox.specs.declared.message.Tail.{Tail}

@@ -4,11 +4,11 @@ use mathlib.Core.Bool.{Bool, true, false, true≢false, cond, not, ◌&&◌, ◌
 use mathlib.Core.List.{List, [], ◌∷◌, ◌++◌, map}
 use mathlib.Core.Logic.{⊎_elim}
 use mathlib.Core.Option.{Option, none, some}
-use Prim.Native.Nat.{ℕ, zero, suc, ◌+◌, ◌-◌, ◌/◌, ◌%◌, ◌≤◌, ◌<◌, ◌^◌}
+use Prim.Native.Nat.{ℕ, zero, suc, ◌+◌, ◌-◌, ◌/◌, ◌%◌, ◌<◌, ◌^◌}
 use native.Mathlib.Omega.{arith}
 use lib.Dec.{ltb, eqb}
 use lib.ListN.{get_or}
-use borrow.Author.Tests.{eqb-true, eq-eqb, ne_eqb, lt-ltb, le-ltb, ltb-true, not-true}
+use borrow.Author.Tests.{eqb-true, eq-eqb, ne_eqb, ltb-true, not-true}
 use Rattle.model.specs.Lists.{all, mem, distinct, tab, collect, more, concat_map}
 use Rattle.model.specs.Values.{Label, label_of, code}
 use Rattle.model.specs.Cells.{labels}
@@ -17,7 +17,7 @@ use Rattle.model.specs.Messages.{Transfer}
 use Rattle.model.specs.Links.{Link}
 use Rattle.model.specs.Arrival.{critical_links, label_new, labels_new}
 use Rattle.departure.proofs.LeavingFaces.{in_codes}
-use Rattle.laws.proofs.Tests.{by_cases, and_left, and_right, and_intro, lt_or_ge, eq_or_ne, same_truth}
+use Rattle.laws.proofs.Tests.{by_cases, and_left, and_right, and_intro, eq_or_ne, same_truth}
 use Rattle.laws.proofs.Members.{In, in_there, all_in, all_from, all_cong, all_map, map_append, map_map, map_cong, append_in, in_append_left, in_append_right, distinct_append, distinct_left, distinct_right, distinct_apart}
 use Rattle.laws.proofs.Maps.{map_self}
 use Rattle.laws.proofs.Tables.{tab_all, all_tab, map_tab, mem_place, place_mem, mem_none, tab_apart, tab_distinct}

@@ -2,19 +2,17 @@
 use mathlib.Core.Path.{◌≡◌, refl, sym, ◌∙◌, ap, subst}
 use mathlib.Core.Bool.{Bool, true, false, true≢false, cond, not, ◌&&◌}
 use mathlib.Core.List.{List}
-use Prim.Native.Nat.{ℕ, ◌+◌, ◌-◌, ◌≤◌, ◌<◌}
+use Prim.Native.Nat.{ℕ, ◌+◌, ◌≤◌, ◌<◌}
 use native.Mathlib.Omega.{arith}
 use native.Mathlib.Numerals.{add-one}
 use lib.Dec.{ltb, eqb}
-use lib.ListN.{length, get_or, set, take, replicate, length-replicate}
+use lib.ListN.{length, get_or, set, take}
 use lib.Seq.{get_or-take, take-suc}
 use borrow.Author.Tests.{ltb-true, lt-ltb, le-ltb}
 use Rattle.model.specs.Lists.{all, mem, tab}
 use Rattle.model.specs.Cells.{cycle}
 use Rattle.model.specs.Image.{column}
-use Rattle.model.specs.Values.{room}
 use Rattle.laws.proofs.Tests.{and_left}
-use Rattle.laws.proofs.Lists.{getD_zeros}
 use Rattle.cells.specs.Places.{Assigned}
 use Rattle.cells.proofs.Paths.{assign_more}
 use Rattle.parts.specs.Faces.{Over}

@@ -1,5 +1,5 @@
 -- The third links of faces in arrays by message index. Assumes nothing.
-use Rattle.std.specs.Prelude.{◌≡◌, ◌⊎◌, List, map, ℕ, ◌+◌, ◌*◌, ◌≤◌, ◌<◌, ◌^◌, length, get_or}
+use Rattle.std.specs.Prelude.{◌≡◌, ◌⊎◌, List, map, ℕ, ◌+◌, ◌*◌, ◌≤◌, ◌<◌, length, get_or}
 use Rattle.model.specs.Values.{code, number_bound, positions}
 use Rattle.parts.specs.Entries.{labels_at}
 

@@ -1,4 +1,6 @@
 // The parts of a transfer that arrives: question 20, and the third link of each of its darts.
+#![tactic(auto)]
+
 pub mod entries; // entries.rt: entries of the parts, read into arrays
 pub mod indices; // indices.rt: face starts, ascending, no face in two parts
 pub mod numbers; // numbers.rt: part 3 numbers, part 4 blocks

@@ -1,4 +1,4 @@
-use Rattle.std.proofs.Common.{◌-◌, sym, ◌∙◌, arith}
+use Rattle.std.proofs.Common.{sym, ◌∙◌, arith}
 use Rattle.decimal.proofs.Texts.{reading_start, reading_on, reading_stop, reading_end}
 use Rattle.decimal.proofs.digits_in.Goals as goal
 

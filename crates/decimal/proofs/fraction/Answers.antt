@@ -12,6 +12,10 @@ pub slice_bounds-exponent_in-count : goal.slice_bounds-exponent_in-count
 slice_bounds-exponent_in-count c =
     omega (arith, digits_within c.args.n c.args.text.now c.digits_in-d.ensures)
 
+pub slice_bounds-exponent_in-start : goal.slice_bounds-exponent_in-start
+slice_bounds-exponent_in-start c =
+    omega (arith, digits_within c.args.n c.args.text.now c.digits_in-d.ensures)
+
 pub returns : goal.returns
 returns c =
     fraction_some _ c.args.n c.args.text.now c.digits_in-d.ensures c.if-places-eq0.false c.exponent_in.ensures c.scaled.ensures

@@ -1,4 +1,4 @@
-use Rattle.std.proofs.Common.{◌≡◌, ℕ, ◌-◌, ◌^◌, false, refl, subst, arith}
+use Rattle.std.proofs.Common.{◌≡◌, ℕ, ◌^◌, false, refl, subst, arith}
 use lib.Ieee.{of_bits}
 use lib.Ieee.Exact.{HasValue}
 use Rattle.decimal.proofs.Floats.{ten_more}

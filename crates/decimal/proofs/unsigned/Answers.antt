@@ -12,6 +12,10 @@ pub slice_bounds-behind-count : goal.slice_bounds-behind-count
 slice_bounds-behind-count c =
     omega (arith, digits_within 0 c.args.text.now c.digits_in-d.ensures)
 
+pub slice_bounds-behind-start : goal.slice_bounds-behind-start
+slice_bounds-behind-start c =
+    omega (arith, digits_within 0 c.args.text.now c.digits_in-d.ensures)
+
 pub behind-requires : goal.behind-requires
 behind-requires c =
     digits_capped 0 c.args.text.now c.digits_in-d.ensures

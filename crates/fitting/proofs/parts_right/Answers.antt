@@ -36,70 +36,68 @@ critical_right-requires c =
 
 pub shape_of-kinds-then-not-critical_right : goal.shape_of-kinds-then-not-critical_right
 shape_of-kinds-then-not-critical_right c =
-    omega (arith, c.critical_right.kept)
+    omega (arith, c.critical_right.auto)
 
 pub shape_of-links-then-not-critical_right : goal.shape_of-links-then-not-critical_right
 shape_of-links-then-not-critical_right c =
-    omega (arith, c.critical_right.kept)
+    omega (arith, c.critical_right.auto)
 
 pub shape_of-codes-then-not-critical_right : goal.shape_of-codes-then-not-critical_right
 shape_of-codes-then-not-critical_right c =
-    omega (arith, c.critical_right.kept)
+    omega (arith, c.critical_right.auto)
 
 pub shape_of-indices-then-not-critical_right : goal.shape_of-indices-then-not-critical_right
 shape_of-indices-then-not-critical_right c =
-    omega (arith, c.critical_right.kept)
+    omega (arith, c.critical_right.auto)
 
 pub shape_of-numbers-then-not-critical_right : goal.shape_of-numbers-then-not-critical_right
 shape_of-numbers-then-not-critical_right c =
-    omega (arith, c.critical_right.kept)
+    omega (arith, c.critical_right.auto)
 
 pub shape_of-third-then-not-critical_right : goal.shape_of-third-then-not-critical_right
 shape_of-third-then-not-critical_right c =
-    omega (arith, c.critical_right.kept)
+    omega (arith, c.critical_right.auto)
 
 pub shape_of-fourth-then-not-critical_right : goal.shape_of-fourth-then-not-critical_right
 shape_of-fourth-then-not-critical_right c =
-    omega (arith, c.critical_right.kept)
+    omega (arith, c.critical_right.auto)
 
 pub shape_of-others-then-not-critical_right : goal.shape_of-others-then-not-critical_right
 shape_of-others-then-not-critical_right c =
-    omega (arith, c.critical_right.kept)
+    omega (arith, c.critical_right.auto)
 
 pub shape_of-rows-then-not-critical_right : goal.shape_of-rows-then-not-critical_right
 shape_of-rows-then-not-critical_right c =
-    omega (arith, c.critical_right.kept)
+    omega (arith, c.critical_right.auto)
 
 pub shape_of-marks-then-not-critical_right : goal.shape_of-marks-then-not-critical_right
 shape_of-marks-then-not-critical_right c =
-    omega (arith, c.critical_right.kept)
+    omega (arith, c.critical_right.auto)
 
 pub returns-then-not-critical_right : goal.returns-then-not-critical_right
 returns-then-not-critical_right c =
-    let start : tie.Start = (search) in
-    λ v x n. critical_no start.pre.0.0 n c.critical_right.ensures c.if-not-critical_right.true
+    λ v x n. critical_no c.requires.block_value.0 n c.critical_right.ensures c.if-not-critical_right.true
 
 pub part2_fits-requires : goal.part2_fits-requires
 part2_fits-requires c =
-    let start : tie.Start = (search) in
-    let of-arrays = start.pre.1.1.0 in
-    let ready_made = start.pre.1.1.1 in
-    let new = start.pre.1.0.2 in
-    let few = few_second start.pre.0.0 new c.critical_right.ensures c.if-not-critical_right.false
-    (omega (arith, c.critical_right.kept, of-arrays.0)) (omega (arith, c.critical_right.kept, of-arrays.1)) start.pre.0.2 start.pre.0.3
-    start.pre.0.6 in
+    let of-arrays = c.requires.darts_in_bounds in
+    let ready_made = c.requires.by_index_2 in
+    let new = c.requires.by_index.2 in
+    let few = few_second c.requires.block_value.0 new c.critical_right.ensures c.if-not-critical_right.false
+    (omega (arith, c.critical_right.auto, of-arrays.0)) (omega (arith, c.critical_right.auto, of-arrays.1)) c.requires.block_value.2 c.requires.block_value.3
+    c.requires.block_value.6 in
     record {
       part2ready = (
-        ready start.pre.0.0 new c.critical_right.ensures c.if-not-critical_right.false (omega (arith, c.critical_right.kept, of-arrays.0))
-            (omega (arith, c.critical_right.kept, of-arrays.1)) start.pre.0.2 start.pre.0.3 start.pre.0.6,
+        ready c.requires.block_value.0 new c.critical_right.ensures c.if-not-critical_right.false (omega (arith, c.critical_right.auto, of-arrays.0))
+            (omega (arith, c.critical_right.auto, of-arrays.1)) c.requires.block_value.2 c.requires.block_value.3 c.requires.block_value.6,
         few,
-        omega (arith, c.critical_right.kept, start.pre.0.7),
-        omega (arith, c.critical_right.kept, start.pre.0.8),
+        omega (arith, c.critical_right.auto, c.requires.block_value.7),
+        omega (arith, c.critical_right.auto, c.requires.block_value.8),
       );
       k_in_bounds = (
-        omega (arith, c.critical_right.kept, of-arrays.2),
-        omega (arith, c.critical_right.kept, of-arrays.3),
-        omega (arith, c.critical_right.kept, of-arrays.6),
+        omega (arith, c.critical_right.auto, of-arrays.2),
+        omega (arith, c.critical_right.auto, of-arrays.3),
+        omega (arith, c.critical_right.auto, of-arrays.6),
         of-arrays.7,
         of-arrays.8,
         of-arrays.10,
@@ -109,61 +107,59 @@ part2_fits-requires c =
 
 pub shape_of-kinds : goal.shape_of-kinds
 shape_of-kinds c =
-    omega (arith, c.part2_fits.kept, c.critical_right.kept)
+    omega (arith, c.part2_fits.auto, c.critical_right.auto)
 
 pub shape_of-links : goal.shape_of-links
 shape_of-links c =
-    omega (arith, c.part2_fits.kept, c.critical_right.kept)
+    omega (arith, c.part2_fits.auto, c.critical_right.auto)
 
 pub shape_of-codes : goal.shape_of-codes
 shape_of-codes c =
-    omega (arith, c.critical_right.kept)
+    omega (arith, c.critical_right.auto)
 
 pub shape_of-indices : goal.shape_of-indices
 shape_of-indices c =
-    omega (arith, c.critical_right.kept)
+    omega (arith, c.critical_right.auto)
 
 pub shape_of-numbers : goal.shape_of-numbers
 shape_of-numbers c =
-    omega (arith, c.part2_fits.kept, c.critical_right.kept)
+    omega (arith, c.part2_fits.auto, c.critical_right.auto)
 
 pub shape_of-third : goal.shape_of-third
 shape_of-third c =
-    omega (arith, c.part2_fits.kept, c.critical_right.kept)
+    omega (arith, c.part2_fits.auto, c.critical_right.auto)
 
 pub shape_of-fourth : goal.shape_of-fourth
 shape_of-fourth c =
-    omega (arith, c.critical_right.kept)
+    omega (arith, c.critical_right.auto)
 
 pub shape_of-others : goal.shape_of-others
 shape_of-others c =
-    omega (arith, c.critical_right.kept)
+    omega (arith, c.critical_right.auto)
 
 pub shape_of-rows : goal.shape_of-rows
 shape_of-rows c =
-    omega (arith, c.part2_fits.kept, c.critical_right.kept)
+    omega (arith, c.part2_fits.auto, c.critical_right.auto)
 
 pub shape_of-places : goal.shape_of-places
 shape_of-places c =
-    omega (arith, c.part2_fits.kept)
+    omega (arith, c.part2_fits.auto)
 
 pub shape_of-trail : goal.shape_of-trail
 shape_of-trail c =
-    omega (arith, c.part2_fits.kept)
+    omega (arith, c.part2_fits.auto)
 
 pub shape_of-marks : goal.shape_of-marks
 shape_of-marks c =
-    omega (arith, c.critical_right.kept)
+    omega (arith, c.critical_right.auto)
 
 pub shape_of-seen : goal.shape_of-seen
 shape_of-seen c =
-    omega (arith, c.part2_fits.kept)
+    omega (arith, c.part2_fits.auto)
 
 pub returns : goal.returns
 returns c =
-    let start : tie.Start =
-    (search) in
-    let of-arrays = start.pre.1.1.0 in
-    λ v x n. parted start.pre.0.0 n c.critical_right.ensures c.if-not-critical_right.false
-    (omega (arith, c.critical_right.kept, of-arrays.0)) (omega (arith, c.critical_right.kept, of-arrays.1)) start.pre.0.2 start.pre.0.3
-    start.pre.0.6 c.part2_fits.ensures
+    let of-arrays = c.requires.darts_in_bounds in
+    λ v x n. parted c.requires.block_value.0 n c.critical_right.ensures c.if-not-critical_right.false
+    (omega (arith, c.critical_right.auto, of-arrays.0)) (omega (arith, c.critical_right.auto, of-arrays.1)) c.requires.block_value.2 c.requires.block_value.3
+    c.requires.block_value.6 c.part2_fits.ensures

@@ -4,4 +4,4 @@ use Rattle.oracle.proofs.below.Goals as goal
 
 pub returns : goal.returns
 returns c =
-    lt_test c.args.a c.args.b c.well-formed.0.1 c.well-formed.1.0.1
+    lt_test c.args.a c.args.b c.well_formed.0.1 c.well_formed.1.0.1

@@ -10,4 +10,4 @@ float_from_bits-top c =
 
 pub returns : goal.returns
 returns c =
-    finite_test c.args.x c.well-formed.0.1
+    finite_test c.args.x c.well_formed.0.1

@@ -29,82 +29,82 @@ join-requires c =
     let joins = may_join lim here.0 here.1 here.2 long y here.4.0 here.4.1 here.4.2 in
     let count = new_count lim here.0 here.1 here.2 long y here.4.0 here.4.1 here.4.2 in
     record {
-      block_in_bounds = (omega (arith, y.2, c.questions.kept, lent.old_all), omega (arith, count, y.3, c.questions.kept, lent.new_long));
+      block_in_bounds = (omega (arith, y.2, c.questions.auto, lent.old_all), omega (arith, count, y.3, c.questions.auto, lent.new_long));
       draft_in_bounds = (
-        omega (arith, count, y.3, c.questions.kept, lent.kinds_long),
-        omega (arith, count, y.3, c.questions.kept, lent.links_long),
-        omega (arith, count, y.3, c.questions.kept, lent.ranks_long),
+        omega (arith, count, y.3, c.questions.auto, lent.kinds_long),
+        omega (arith, count, y.3, c.questions.auto, lent.links_long),
+        omega (arith, count, y.3, c.questions.auto, lent.ranks_long),
         joins,
       );
     }
 
 pub shape_of-vertex-in-Refused : goal.shape_of-vertex-in-Refused
 shape_of-vertex-in-Refused c =
-    omega (arith, c.questions.kept)
+    omega (arith, c.questions.auto)
 
 pub shape_of-serial-in-Refused : goal.shape_of-serial-in-Refused
 shape_of-serial-in-Refused c =
-    omega (arith, c.questions.kept)
+    omega (arith, c.questions.auto)
 
 pub shape_of-keys-in-Refused : goal.shape_of-keys-in-Refused
 shape_of-keys-in-Refused c =
-    omega (arith, c.questions.kept)
+    omega (arith, c.questions.auto)
 
 pub shape_of-ranks-in-Refused : goal.shape_of-ranks-in-Refused
 shape_of-ranks-in-Refused c =
-    omega (arith, c.questions.kept)
+    omega (arith, c.questions.auto)
 
 pub shape_of-opposite-in-Refused : goal.shape_of-opposite-in-Refused
 shape_of-opposite-in-Refused c =
-    omega (arith, c.questions.kept)
+    omega (arith, c.questions.auto)
 
 pub shape_of-draft-in-Refused : goal.shape_of-draft-in-Refused
 shape_of-draft-in-Refused c =
-    omega (arith, c.questions.kept)
+    omega (arith, c.questions.auto)
 
 pub shape_of-kinds-in-Refused : goal.shape_of-kinds-in-Refused
 shape_of-kinds-in-Refused c =
-    omega (arith, c.questions.kept)
+    omega (arith, c.questions.auto)
 
 pub shape_of-links-in-Refused : goal.shape_of-links-in-Refused
 shape_of-links-in-Refused c =
-    omega (arith, c.questions.kept)
+    omega (arith, c.questions.auto)
 
 pub shape_of-old-in-Refused : goal.shape_of-old-in-Refused
 shape_of-old-in-Refused c =
-    omega (arith, c.questions.kept)
+    omega (arith, c.questions.auto)
 
 pub shape_of-new-in-Refused : goal.shape_of-new-in-Refused
 shape_of-new-in-Refused c =
-    omega (arith, c.questions.kept)
+    omega (arith, c.questions.auto)
 
 pub shape_of-codes-in-Refused : goal.shape_of-codes-in-Refused
 shape_of-codes-in-Refused c =
-    omega (arith, c.questions.kept)
+    omega (arith, c.questions.auto)
 
 pub shape_of-indices-in-Refused : goal.shape_of-indices-in-Refused
 shape_of-indices-in-Refused c =
-    omega (arith, c.questions.kept)
+    omega (arith, c.questions.auto)
 
 pub shape_of-numbers-in-Refused : goal.shape_of-numbers-in-Refused
 shape_of-numbers-in-Refused c =
-    omega (arith, c.questions.kept)
+    omega (arith, c.questions.auto)
 
 pub shape_of-third-in-Refused : goal.shape_of-third-in-Refused
 shape_of-third-in-Refused c =
-    omega (arith, c.questions.kept)
+    omega (arith, c.questions.auto)
 
 pub shape_of-places-in-Refused : goal.shape_of-places-in-Refused
 shape_of-places-in-Refused c =
-    omega (arith, c.questions.kept)
+    omega (arith, c.questions.auto)
 
 pub shape_of-marks-in-Refused : goal.shape_of-marks-in-Refused
 shape_of-marks-in-Refused c =
-    omega (arith, c.questions.kept)
+    omega (arith, c.questions.auto)
 
 pub shape_of-seen-in-Refused : goal.shape_of-seen-in-Refused
 shape_of-seen-in-Refused c =
-    omega (arith, c.questions.kept)
+    omega (arith, c.questions.auto)
 
 pub returns-in-Refused : goal.returns-in-Refused
 returns-in-Refused c =
@@ -116,75 +116,75 @@ returns-in-Refused c =
 
 pub shape_of-block-in-Served : goal.shape_of-block-in-Served
 shape_of-block-in-Served c =
-    omega (arith, c.join.kept)
+    omega (arith, c.join.auto)
 
 pub shape_of-vertex-in-Served : goal.shape_of-vertex-in-Served
 shape_of-vertex-in-Served c =
-    omega (arith, c.questions.kept)
+    omega (arith, c.questions.auto)
 
 pub shape_of-serial-in-Served : goal.shape_of-serial-in-Served
 shape_of-serial-in-Served c =
-    omega (arith, c.questions.kept)
+    omega (arith, c.questions.auto)
 
 pub shape_of-keys-in-Served : goal.shape_of-keys-in-Served
 shape_of-keys-in-Served c =
-    omega (arith, c.questions.kept)
+    omega (arith, c.questions.auto)
 
 pub shape_of-ranks-in-Served : goal.shape_of-ranks-in-Served
 shape_of-ranks-in-Served c =
-    omega (arith, c.questions.kept)
+    omega (arith, c.questions.auto)
 
 pub shape_of-opposite-in-Served : goal.shape_of-opposite-in-Served
 shape_of-opposite-in-Served c =
-    omega (arith, c.questions.kept)
+    omega (arith, c.questions.auto)
 
 pub shape_of-draft-in-Served : goal.shape_of-draft-in-Served
 shape_of-draft-in-Served c =
-    omega (arith, c.questions.kept)
+    omega (arith, c.questions.auto)
 
 pub shape_of-kinds-in-Served : goal.shape_of-kinds-in-Served
 shape_of-kinds-in-Served c =
-    omega (arith, c.questions.kept)
+    omega (arith, c.questions.auto)
 
 pub shape_of-links-in-Served : goal.shape_of-links-in-Served
 shape_of-links-in-Served c =
-    omega (arith, c.questions.kept)
+    omega (arith, c.questions.auto)
 
 pub shape_of-old-in-Served : goal.shape_of-old-in-Served
 shape_of-old-in-Served c =
-    omega (arith, c.join.kept, c.questions.kept)
+    omega (arith, c.join.auto, c.questions.auto)
 
 pub shape_of-new-in-Served : goal.shape_of-new-in-Served
 shape_of-new-in-Served c =
-    omega (arith, c.join.kept, c.questions.kept)
+    omega (arith, c.join.auto, c.questions.auto)
 
 pub shape_of-codes-in-Served : goal.shape_of-codes-in-Served
 shape_of-codes-in-Served c =
-    omega (arith, c.questions.kept)
+    omega (arith, c.questions.auto)
 
 pub shape_of-indices-in-Served : goal.shape_of-indices-in-Served
 shape_of-indices-in-Served c =
-    omega (arith, c.questions.kept)
+    omega (arith, c.questions.auto)
 
 pub shape_of-numbers-in-Served : goal.shape_of-numbers-in-Served
 shape_of-numbers-in-Served c =
-    omega (arith, c.questions.kept)
+    omega (arith, c.questions.auto)
 
 pub shape_of-third-in-Served : goal.shape_of-third-in-Served
 shape_of-third-in-Served c =
-    omega (arith, c.questions.kept)
+    omega (arith, c.questions.auto)
 
 pub shape_of-places-in-Served : goal.shape_of-places-in-Served
 shape_of-places-in-Served c =
-    omega (arith, c.questions.kept)
+    omega (arith, c.questions.auto)
 
 pub shape_of-marks-in-Served : goal.shape_of-marks-in-Served
 shape_of-marks-in-Served c =
-    omega (arith, c.questions.kept)
+    omega (arith, c.questions.auto)
 
 pub shape_of-seen-in-Served : goal.shape_of-seen-in-Served
 shape_of-seen-in-Served c =
-    omega (arith, c.questions.kept)
+    omega (arith, c.questions.auto)
 
 pub returns-in-Served : goal.returns-in-Served
 returns-in-Served c =

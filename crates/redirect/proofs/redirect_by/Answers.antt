@@ -48,7 +48,7 @@ redirect_update-requires c =
         omega (arith, fits, c.if-block-words.false, c.words.ensures, table.2),
         table.3,
       );
-      block_in_bounds_2 = (omega (arith, fits, c.if-block-words.false, c.words.ensures, codes.0, c.is_sound_by.kept), omega (arith, fits, c.if-block-words.false, c.words.ensures, codes.1, c.is_sound_by.kept));
+      block_in_bounds_2 = (omega (arith, fits, c.if-block-words.false, c.words.ensures, codes.0, c.is_sound_by.auto), omega (arith, fits, c.if-block-words.false, c.words.ensures, codes.1, c.is_sound_by.auto));
     }
 
 pub returns-in-Transfer : goal.returns-in-Transfer
@@ -60,15 +60,15 @@ returns-in-Transfer c =
 
 pub shape_of-codes-in-Update : goal.shape_of-codes-in-Update
 shape_of-codes-in-Update c =
-    omega (arith, c.redirect_update.kept, c.is_sound_by.kept)
+    omega (arith, c.redirect_update.auto, c.is_sound_by.auto)
 
 pub shape_of-scratch-in-Update : goal.shape_of-scratch-in-Update
 shape_of-scratch-in-Update c =
-    omega (arith, c.redirect_update.kept, c.is_sound_by.kept)
+    omega (arith, c.redirect_update.auto, c.is_sound_by.auto)
 
 pub shape_of-seen-in-Update : goal.shape_of-seen-in-Update
 shape_of-seen-in-Update c =
-    omega (arith, c.is_sound_by.kept)
+    omega (arith, c.is_sound_by.auto)
 
 pub returns-in-Update : goal.returns-in-Update
 returns-in-Update c =

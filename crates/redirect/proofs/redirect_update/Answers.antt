@@ -42,7 +42,7 @@ critical_with-word-requires c =
 pub rewrite-requires : goal.rewrite-requires
 rewrite-requires c =
     let l = (sited c.args.block.now c.requires.block_value.0).linked in
-    (l.few, l.size, omega (arith, c.all_named.kept, c.requires.block_in_bounds.0))
+    (l.few, l.size, omega (arith, c.all_named.auto, c.requires.block_in_bounds.0))
 
 pub returns : goal.returns
 returns c =

@@ -1,5 +1,4 @@
 use mathlib.Core.Path.{refl}
-use Prim.Native.Nat.{◌-◌}
 use Rattle.arrival.proofs.Drafting.{drafting_none, drafting_more, drafting_all}
 use native.Mathlib.Omega.{arith}
 use Rattle.arrival.proofs.draft.put_draft.Goals as goal
@@ -10,7 +9,7 @@ loop-p-init c =
 
 pub loop-p-preserved : goal.loop-p-preserved
 loop-p-preserved c =
-    (drafting_more c.loop-p.invariant.0 (omega arith) c.record_of-r.ensures c.put_record.ensures, omega (arith, c.put_record.kept, c.loop-p.invariant.1))
+    (drafting_more c.loop-p.invariant.0 (omega arith) c.record_of-r.ensures c.put_record.ensures, omega (arith, c.put_record.auto.block, c.loop-p.invariant.1))
 
 pub returns : goal.returns
 returns c =

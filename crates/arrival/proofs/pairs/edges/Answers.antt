@@ -1,4 +1,4 @@
-use Prim.Native.Nat.{◌+◌, ◌-◌}
+use Prim.Native.Nat.{◌+◌}
 use mathlib.Core.Path.{refl, ◌∙◌}
 use lib.ListN.{set, length-set}
 use Rattle.arrival.proofs.EdgeLaws.{coupling_none, coupling_not, coupling_more, coupling_all}

@@ -24,8 +24,8 @@ rank-requires c =
       le_k = (
         c.requires.k_in_bounds.4,
         c.requires.k_in_bounds.5,
-        omega (arith, c.put_pairs.kept, c.requires.k_in_bounds_2.0),
-        pair_fits vertex starts sizes k c.requires.segments.0 c.requires.segments.1 c.put_pairs.last.1.1.1.1.0
+        omega (arith, c.put_pairs.auto.pairs, c.requires.k_in_bounds_2.0),
+        pair_fits vertex starts sizes k c.requires.segments.0 c.requires.segments.1 c.put_pairs.new.pairs
             c.put_pairs.ensures.1,
       );
       k_in_bounds = (c.requires.k_in_bounds_2.1, c.requires.k_in_bounds_2.2, c.requires.k_in_bounds_2.3);
@@ -37,21 +37,20 @@ returns-then-not-rank c =
     let starts = c.args.starts.now in
     let sizes = c.args.sizes.now in
     let k = c.args.k in
-    paired_twice vertex starts sizes k c.requires.segments.0 c.requires.segments.1 c.put_pairs.last.1.1.1.1.0
+    paired_twice vertex starts sizes k c.requires.segments.0 c.requires.segments.1 c.put_pairs.new.pairs
     c.put_pairs.ensures.1 (sym c.rank.ensures.answer ∙ c.if-not-rank.true)
 
 pub edges-requires : goal.edges-requires
 edges-requires c =
     let w = c.rank.ensures.ranked c.if-not-rank.false in
-    record { k_in_bounds = (omega (arith, c.rank.kept, c.requires.k_in_bounds_2.1), λ p h. omega (arith, w.index_below p h, c.requires.k_in_bounds.3), w.ascends); by_index = ranked_apart w }
+    record { k_in_bounds = (omega (arith, c.rank.auto.keys, c.requires.k_in_bounds_2.1), λ p h. omega (arith, w.index_below p h, c.requires.k_in_bounds.3), w.ascends); by_index = ranked_apart w }
 
 pub returns : goal.returns
 returns c =
-    let start : tie.Start = (search) in
-    let vertex = start.args.vertex.now in
-    let starts = start.args.starts.now in
-    let sizes = start.args.sizes.now in
-    let k = start.args.k in
-    paired_found vertex starts sizes k start.pre.1.1.0 start.pre.1.1.1 c.put_pairs.last.1.1.1.1.0
+    let vertex = c.args.vertex.now in
+    let starts = c.args.starts.now in
+    let sizes = c.args.sizes.now in
+    let k = c.args.k in
+    paired_found vertex starts sizes k c.requires.segments.0 c.requires.segments.1 c.put_pairs.new.pairs
     c.put_pairs.ensures.1 (sym c.put_pairs.ensures.0 ∙ c.if-not-put_pairs.false) (sym c.rank.ensures.answer ∙ c.if-not-rank.false)
     (c.rank.ensures.ranked c.if-not-rank.false) c.edges.ensures

@@ -1,4 +1,3 @@
-use Prim.Native.Nat.{◌-◌}
 use lib.ListN.{get_or}
 use Rattle.arrival.specs.Draft.{is_new}
 use Rattle.arrival.proofs.Eighteen.{told_old, told_new}

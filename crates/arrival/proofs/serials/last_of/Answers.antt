@@ -11,7 +11,7 @@ loop-left-init c =
 pub up-low-requires : goal.up-low-requires
 up-low-requires c = (
   omega arith,
-  (let small = c.requires.4 (c.loop-left.low + c.loop-left.false / 2) (omega arith) in omega (arith, small, c.field-middle.ensures)),
+  (let small = c.requires.4 (c.loop-left.low + c.loop-left.left / 2) (omega arith) in omega (arith, small, c.field-middle.ensures)),
   (let small = c.requires.5 in omega (arith, small)),
 )
 

@@ -19,8 +19,8 @@ number_vertices-found-requires c =
 pub returns : goal.returns
 returns c =
     record {
-      numbers = c.number_vertices-found.last.1.1.1.1.0;
-      firsts = c.number_vertices-found.last.1.1.1.1.1.0;
+      numbers = c.number_vertices-found.new.numbers;
+      firsts = c.number_vertices-found.new.firsts;
       count = c.number_vertices-found.result;
       numbered = c.number_vertices-found.ensures;
       result = rw c.numbers_same.ensures refl;

@@ -9,7 +9,7 @@ pub unmark-requires : goal.unmark-requires
 unmark-requires c =
     let listed = c.volume-size.ensures.listed in
     let few = c.requires.0.few in
-    (omega (arith, listed.few, few), omega (arith, listed.few, listed.size), λ k h. omega (arith, listed.below k h, c.requires.3, c.volume-size.kept))
+    (omega (arith, listed.few, few), omega (arith, listed.few, listed.size), λ k h. omega (arith, listed.below k h, c.requires.3, c.volume-size.auto.marks))
 
 pub returns : goal.returns
 returns c =

@@ -46,7 +46,7 @@ put_draft-requires c =
         c.requires.k_in_bounds.3,
         c.requires.k_in_bounds.4,
         c.requires.k_in_bounds.5,
-        omega (arith, c.paired.kept, c.requires.k_in_bounds.6),
+        omega (arith, c.paired.auto, c.requires.k_in_bounds.6),
         c.requires.k_in_bounds.7,
       );
       draftable = draftable c.requires.ranked.2.1 (sym c.vertices_fit.ensures ∙ c.if-not-vertices_fit.false) c.requires.ranked.0 c.paired.ensures
@@ -63,7 +63,7 @@ one_volume-requires c = (
       (draft_of c.requires.ranked.2.1 (sym c.vertices_fit.ensures ∙ c.if-not-vertices_fit.false) c.requires.ranked.0 c.paired.ensures
       c.if-not-paired.false c.put_draft.ensures),
   omega (arith, c.rank_at-first.ensures, c.requires.ranked.0.rank_below 0 c.requires.ranked.2.1.some_darts),
-  omega (arith, c.paired.kept, c.requires.k_in_bounds_2.0),
+  omega (arith, c.paired.auto, c.requires.k_in_bounds_2.0),
   c.requires.k_in_bounds_2.5,
   c.requires.k_in_bounds_2.6,
 )
@@ -88,21 +88,21 @@ numbered-requires c = (
   c.requires.k_in_bounds.5,
   c.requires.ranked.2.1.few,
   c.requires.ranked.0.rank_below,
-  omega (arith, c.one_volume.kept, c.paired.kept, c.requires.k_in_bounds_2.0),
+  omega (arith, c.one_volume.auto, c.paired.auto, c.requires.k_in_bounds_2.0),
   c.requires.k_in_bounds_2.1,
 )
 
 pub shape_of-opposite : goal.shape_of-opposite
 shape_of-opposite c =
-    omega (arith, c.paired.kept)
+    omega (arith, c.paired.auto)
 
 pub shape_of-pairs : goal.shape_of-pairs
 shape_of-pairs c =
-    omega (arith, c.paired.kept)
+    omega (arith, c.paired.auto)
 
 pub shape_of-sorted : goal.shape_of-sorted
 shape_of-sorted c =
-    omega (arith, c.paired.kept)
+    omega (arith, c.paired.auto)
 
 pub returns : goal.returns
 returns c =

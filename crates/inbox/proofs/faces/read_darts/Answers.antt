@@ -1,5 +1,4 @@
 use mathlib.Core.Path.{refl}
-use Prim.Native.Nat.{◌-◌}
 use Rattle.inbox.proofs.Arrays.{darts_start, darts_more, darts_stop, darts_end}
 use native.Mathlib.Omega.{arith}
 use Rattle.inbox.proofs.faces.read_darts.Goals as goal

@@ -1,6 +1,7 @@
 -- `inbox::message::read_update` meets its contract: what is missing, or the outline. Its labels are those of a message with no faces.
 -- Assumes nothing.
 use mathlib.Core.Path.{sym, ◌∙◌}
+use mathlib.Core.List.{[]}
 use Rattle.model.specs.Layouts.{at_most}
 use Rattle.model.specs.Messages.{label}
 use Rattle.groups.proofs.Ends.{bad_at}

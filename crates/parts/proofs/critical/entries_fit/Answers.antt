@@ -18,7 +18,7 @@ neither-last-requires c =
 
 pub shape_of-marks : goal.shape_of-marks
 shape_of-marks c =
-    omega (arith, c.indices_fit-first.kept)
+    omega (arith, c.indices_fit-first.auto)
 
 pub returns : goal.returns
 returns c =

@@ -1,4 +1,3 @@
-use Prim.Native.Nat.{◌-◌}
 use mathlib.Core.Path.{refl}
 use lib.ListN.{length-set}
 use Rattle.parts.proofs.Reading.{entry_missing, entry_there, reading4_start, reading4_more, reading4_bad, reading4_end}

@@ -1,4 +1,3 @@
-use Prim.Native.Nat.{◌-◌}
 use mathlib.Core.Path.{sym, ◌∙◌}
 use Rattle.parts.proofs.Writing.{coding_none, coding_bad, coding_more, coding_end}
 use native.Mathlib.Omega.{arith}

@@ -1,4 +1,4 @@
-use Prim.Native.Nat.{◌+◌, ◌*◌, ◌-◌}
+use Prim.Native.Nat.{◌+◌, ◌*◌}
 use Rattle.parts.specs.Faces.{numbered_code}
 use Rattle.parts.proofs.Writing.{face_within, over_face, faced_none, faced_more, faced_all}
 use native.Mathlib.Omega.{arith}

@@ -1,4 +1,4 @@
-use Prim.Native.Nat.{◌+◌, ◌*◌, ◌-◌}
+use Prim.Native.Nat.{◌+◌, ◌*◌}
 use mathlib.Core.Path.{sym, subst}
 use lib.ListN.{get_or}
 use Rattle.parts.specs.Entries.{LabelsThere}
@@ -46,15 +46,14 @@ put_codes-requires c =
 
 pub loop-e-preserved : goal.loop-e-preserved
 loop-e-preserved c =
-    let start : tie.Start invariant-loop decreases-loop = (search) in
-    let sizes = start.args.sizes.now in
-    let indices = start.args.indices.now in
-    let message = start.args.message.now in
-    let others = start.args.others.now in
-    let places = start.args.places.now in (
-      faced_more start.pre.1.1 c.loop-e.invariant.0 (omega arith)
+    let sizes = c.args.sizes.now in
+    let indices = c.args.indices.now in
+    let message = c.args.message.now in
+    let others = c.args.others.now in
+    let places = c.args.places.now in (
+      faced_more c.requires.by_index.1 c.loop-e.invariant.0 (omega arith)
           (over_face sizes indices c.loop-e.e c.entry_index-i.ensures c.size_at-n.ensures (λ k j. 2 + 4 * get_or others c.loop-e.e 0) c.fill.ensures),
-      faced_more start.pre.1.1 c.loop-e.invariant.1 (omega arith)
+      faced_more c.requires.by_index.1 c.loop-e.invariant.1 (omega arith)
           (over_face sizes indices c.loop-e.e c.entry_index-i.ensures c.size_at-n.ensures (code_at message (get_or places c.loop-e.e 0)) c.put_codes.ensures),
       omega arith,
     )

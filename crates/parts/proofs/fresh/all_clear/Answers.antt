@@ -1,4 +1,3 @@
-use Prim.Native.Nat.{◌-◌}
 use mathlib.Core.Path.{sym, ◌∙◌}
 use Rattle.model.specs.Lists.{tab}
 use Rattle.ranking.specs.Ranks.{value_at}

@@ -1,4 +1,3 @@
-use Prim.Native.Nat.{◌-◌}
 use mathlib.Core.Path.{sym, ◌∙◌}
 use Rattle.parts.specs.Fresh.{own_at}
 use Rattle.arrival.proofs.Steps.{passing_none, passing_more, passing_all, passing_not}

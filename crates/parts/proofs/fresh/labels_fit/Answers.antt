@@ -24,7 +24,7 @@ rank-requires c =
       le_k = (
         c.requires.n_in_bounds.4,
         c.requires.n_in_bounds.5,
-        omega (arith, c.put_values.kept, c.requires.k_in_bounds.0),
+        omega (arith, c.put_values.auto, c.requires.k_in_bounds.0),
         value_small c.put_values.ensures c.requires.n_in_bounds.5 c.requires.by_index,
       );
       k_in_bounds = (c.requires.k_in_bounds.1, c.requires.k_in_bounds.2, c.requires.k_in_bounds.3);
@@ -41,7 +41,7 @@ returns-then-not-rank c =
 
 pub all_clear-requires : goal.all_clear-requires
 all_clear-requires c =
-    (c.requires.n_in_bounds.0, c.requires.n_in_bounds.1, omega (arith, c.rank.kept, c.requires.k_in_bounds.1), c.requires.n_in_bounds.5, (c.rank.ensures.ranked c.if-not-rank.false).ascends)
+    (c.requires.n_in_bounds.0, c.requires.n_in_bounds.1, omega (arith, c.rank.auto, c.requires.k_in_bounds.1), c.requires.n_in_bounds.5, (c.rank.ensures.ranked c.if-not-rank.false).ascends)
 
 pub returns : goal.returns
 returns c =

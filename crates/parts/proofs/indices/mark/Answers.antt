@@ -1,4 +1,3 @@
-use Prim.Native.Nat.{◌-◌}
 use Rattle.parts.proofs.IndexLaws.{marking_none, marking_more, marking_end}
 use native.Mathlib.Omega.{arith}
 use Rattle.parts.proofs.indices.mark.Goals as goal

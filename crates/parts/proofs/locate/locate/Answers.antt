@@ -1,4 +1,3 @@
-use Prim.Native.Nat.{◌-◌}
 use mathlib.Core.Path.{refl, ◌∙◌}
 use Rattle.parts.proofs.Locating.{located_none, located_more, located_all}
 use native.Mathlib.Omega.{arith}

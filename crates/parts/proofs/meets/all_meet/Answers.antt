@@ -1,4 +1,3 @@
-use Prim.Native.Nat.{◌-◌}
 use Rattle.parts.specs.Meets.{meets_at}
 use Rattle.parts.proofs.NumberLaws.{every_none, every_more, every_all}
 use native.Mathlib.Omega.{arith}

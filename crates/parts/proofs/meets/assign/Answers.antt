@@ -1,4 +1,3 @@
-use Prim.Native.Nat.{◌-◌}
 use Rattle.cells.proofs.Paths.{assign_none}
 use Rattle.parts.proofs.SewnFaces.{assign_trail, assigned_all}
 use native.Mathlib.Omega.{arith}

@@ -21,7 +21,8 @@ rank_at-p-requires c =
 
 pub meet_at-requires : goal.meet_at-requires
 meet_at-requires c =
-    ready c.requires.0 c.args.at.0 c.requires.1 c.requires.2 c.requires.3 c.rank_at-p.ensures c.met-w.ensures
+    let r = ready c.requires.0 c.args.at.0 c.requires.1 c.requires.2 c.requires.3 c.rank_at-p.ensures c.met-w.ensures in
+    record { p_in_bounds = r.0; finite_at = r.1 }
 
 pub returns : goal.returns
 returns c =

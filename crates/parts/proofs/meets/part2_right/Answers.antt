@@ -1,4 +1,3 @@
-use Prim.Native.Nat.{◌-◌}
 use mathlib.Core.Path.{refl, sym, ◌∙◌}
 use Rattle.arrival.proofs.Steps.{passing_none, passing_more, passing_all, passing_not}
 use Rattle.parts.specs.Sewing.{passes_at}
@@ -45,19 +44,19 @@ enter-requires c =
 
 pub shape_of-trail-then-not-enter : goal.shape_of-trail-then-not-enter
 shape_of-trail-then-not-enter c =
-    omega (arith, c.enter.kept, c.loop-e.invariant.5)
+    omega (arith, c.enter.auto, c.loop-e.invariant.5)
 
 pub shape_of-seen-then-not-enter : goal.shape_of-seen-then-not-enter
 shape_of-seen-then-not-enter c =
-    omega (arith, c.enter.kept, c.loop-e.invariant.6)
+    omega (arith, c.enter.auto, c.loop-e.invariant.6)
 
 pub shape_of-kinds-then-not-enter : goal.shape_of-kinds-then-not-enter
 shape_of-kinds-then-not-enter c =
-    omega (arith, c.enter.kept, c.loop-e.invariant.1.size)
+    omega (arith, c.enter.auto, c.loop-e.invariant.1.size)
 
 pub shape_of-links-then-not-enter : goal.shape_of-links-then-not-enter
 shape_of-links-then-not-enter c =
-    omega (arith, c.enter.kept, c.loop-e.invariant.2.size)
+    omega (arith, c.enter.auto, c.loop-e.invariant.2.size)
 
 pub returns-then-not-enter : goal.returns-then-not-enter
 returns-then-not-enter c =
@@ -81,8 +80,8 @@ loop-e-preserved c =
       passing_more c.loop-e.invariant.3
           (sym (entered_said c.args.sizes.now c.args.places.now c.args.indices.now c.loop-e.e c.loop-e.invariant.0 entered) ∙ yes),
       omega arith,
-      omega (arith, c.enter.kept, c.loop-e.invariant.5),
-      omega (arith, c.enter.kept, c.loop-e.invariant.6),
+      omega (arith, c.enter.auto, c.loop-e.invariant.5),
+      omega (arith, c.enter.auto, c.loop-e.invariant.6),
     )
 
 pub shape_of-trail : goal.shape_of-trail

@@ -1,4 +1,3 @@
-use Prim.Native.Nat.{◌-◌}
 use Rattle.parts.proofs.Writing.{over_none, over_more, over_all}
 use native.Mathlib.Omega.{arith}
 use Rattle.parts.proofs.meets.put_met.Goals as goal

@@ -1,4 +1,4 @@
-use Prim.Native.Nat.{◌-◌, ◌<◌}
+use Prim.Native.Nat.{◌<◌}
 use lib.ListN.{length, length-set}
 use mathlib.Core.Path.{refl}
 use Rattle.cells.proofs.Paths.{round, going_begin, going_again, writing_start, writing_on, writing_end}

@@ -1,4 +1,3 @@
-use Prim.Native.Nat.{◌-◌}
 use mathlib.Core.Path.{refl}
 use Rattle.parts.specs.Numbers.{neither_at}
 use Rattle.parts.proofs.NumberLaws.{every_none, every_more, every_all}

@@ -67,15 +67,15 @@ volume_right-requires c =
         omega (arith, told.few, sides.serial_size),
         omega (arith, told.few, sides.starts_size),
         omega (arith, told.few, sides.sizes_size),
-        omega (arith, c.if-limits-front.false, c.new_serials.kept, lent.keys_long),
-        omega (arith, c.if-limits-front.false, c.new_serials.kept, lent.ranks_long),
+        omega (arith, c.if-limits-front.false, c.new_serials.auto, lent.keys_long),
+        omega (arith, c.if-limits-front.false, c.new_serials.auto, lent.ranks_long),
         omega (arith, c.if-limits-front.false, lent.opposite_long),
         omega (arith, c.if-limits-front.false, lent.draft_long),
       );
       k_in_bounds_2 = (
         omega (arith, c.if-limits-front.false, lent.old_long),
         omega (arith, c.if-limits-front.false, lent.new_long),
-        omega (arith, c.if-limits-front.false, c.new_serials.kept, lent.codes_long),
+        omega (arith, c.if-limits-front.false, c.new_serials.auto, lent.codes_long),
         omega (arith, c.if-limits-front.false, lent.indices_long),
         omega (arith, c.if-limits-front.false, lent.numbers_long),
         omega (arith, c.if-limits-front.false, lent.marks_long),
@@ -86,11 +86,11 @@ volume_right-requires c =
 
 pub shape_of-keys-then-not-volume_right : goal.shape_of-keys-then-not-volume_right
 shape_of-keys-then-not-volume_right c =
-    omega (arith, c.new_serials.kept)
+    omega (arith, c.new_serials.auto)
 
 pub shape_of-codes-then-not-volume_right : goal.shape_of-codes-then-not-volume_right
 shape_of-codes-then-not-volume_right c =
-    omega (arith, c.volume_right.kept, c.new_serials.kept)
+    omega (arith, c.volume_right.auto, c.new_serials.auto)
 
 pub returns-then-not-volume_right : goal.returns-then-not-volume_right
 returns-then-not-volume_right c =
@@ -110,7 +110,7 @@ parts_right-right-requires c =
         c.requires.block_value.0,
         omega (arith, told.few, sides.starts_size),
         omega (arith, told.few, sides.sizes_size),
-        omega (arith, c.if-limits-front.false, c.new_serials.kept, lent.ranks_long),
+        omega (arith, c.if-limits-front.false, c.new_serials.auto, lent.ranks_long),
         lent.kinds_clear,
         lent.links_clear,
         sender_small (byte_list message (λ i. Fits-lt-pow (c.shared_slice_known-2-1.given i))) c.requires.block_value.3.1 c.requires.block_value.3.2,
@@ -119,16 +119,16 @@ parts_right-right-requires c =
       );
       by_index = (c.args.vertex.now, c.args.serial.now, (new_volume c.new_serials.ensures c.if-not-new_serials.false c.volume_right.ensures.answer c.if-not-volume_right.false (c.volume_right.ensures.drafted c.if-not-volume_right.false) c.requires.block_value.3.2));
       darts_in_bounds = (
-        omega (arith, c.if-limits-front.false, c.new_serials.kept, c.volume_right.kept, lent.codes_long),
-        omega (arith, c.if-limits-front.false, c.volume_right.kept, lent.indices_long),
-        omega (arith, c.if-limits-front.false, c.volume_right.kept, lent.numbers_long),
+        omega (arith, c.if-limits-front.false, c.new_serials.auto, c.volume_right.auto, lent.codes_long),
+        omega (arith, c.if-limits-front.false, c.volume_right.auto, lent.indices_long),
+        omega (arith, c.if-limits-front.false, c.volume_right.auto, lent.numbers_long),
         omega (arith, c.if-limits-front.false, lent.third_long),
         omega (arith, told.few, sides.vertex_size),
         omega (arith, told.few, sides.serial_size),
-        omega (arith, c.if-limits-front.false, c.volume_right.kept, lent.old_long),
+        omega (arith, c.if-limits-front.false, c.volume_right.auto, lent.old_long),
         omega (arith, c.if-limits-front.false, lent.places_long),
-        omega (arith, c.if-limits-front.false, c.volume_right.kept, lent.new_long),
-        omega (arith, c.if-limits-front.false, c.volume_right.kept, lent.marks_long),
+        omega (arith, c.if-limits-front.false, c.volume_right.auto, lent.new_long),
+        omega (arith, c.if-limits-front.false, c.volume_right.auto, lent.marks_long),
         omega (arith, c.requires.block_value.1, lent.seen_all),
       );
       by_index_2 = (λ e h. lent.places_none e (omega (arith, h, c.if-limits-front.false)), c.volume_right.ensures.unmarked, lent.seen_clear);
@@ -140,67 +140,67 @@ overflow_add-n c =
 
 pub shape_of-vertex : goal.shape_of-vertex
 shape_of-vertex c =
-    omega (arith, c.parts_right-right.kept)
+    omega (arith, c.parts_right-right.auto)
 
 pub shape_of-serial : goal.shape_of-serial
 shape_of-serial c =
-    omega (arith, c.parts_right-right.kept)
+    omega (arith, c.parts_right-right.auto)
 
 pub shape_of-keys : goal.shape_of-keys
 shape_of-keys c =
-    omega (arith, c.new_serials.kept)
+    omega (arith, c.new_serials.auto)
 
 pub shape_of-ranks : goal.shape_of-ranks
 shape_of-ranks c =
-    omega (arith, c.new_serials.kept)
+    omega (arith, c.new_serials.auto)
 
 pub shape_of-opposite : goal.shape_of-opposite
 shape_of-opposite c =
-    omega (arith, c.volume_right.kept)
+    omega (arith, c.volume_right.auto)
 
 pub shape_of-draft : goal.shape_of-draft
 shape_of-draft c =
-    omega (arith, c.volume_right.kept)
+    omega (arith, c.volume_right.auto)
 
 pub shape_of-kinds : goal.shape_of-kinds
 shape_of-kinds c =
-    omega (arith, c.parts_right-right.kept)
+    omega (arith, c.parts_right-right.auto)
 
 pub shape_of-links : goal.shape_of-links
 shape_of-links c =
-    omega (arith, c.parts_right-right.kept)
+    omega (arith, c.parts_right-right.auto)
 
 pub shape_of-old : goal.shape_of-old
 shape_of-old c =
-    omega (arith, c.parts_right-right.kept, c.volume_right.kept)
+    omega (arith, c.parts_right-right.auto, c.volume_right.auto)
 
 pub shape_of-new : goal.shape_of-new
 shape_of-new c =
-    omega (arith, c.parts_right-right.kept, c.volume_right.kept)
+    omega (arith, c.parts_right-right.auto, c.volume_right.auto)
 
 pub shape_of-codes : goal.shape_of-codes
 shape_of-codes c =
-    omega (arith, c.parts_right-right.kept, c.volume_right.kept, c.new_serials.kept)
+    omega (arith, c.parts_right-right.auto, c.volume_right.auto, c.new_serials.auto)
 
 pub shape_of-indices : goal.shape_of-indices
 shape_of-indices c =
-    omega (arith, c.parts_right-right.kept, c.volume_right.kept)
+    omega (arith, c.parts_right-right.auto, c.volume_right.auto)
 
 pub shape_of-numbers : goal.shape_of-numbers
 shape_of-numbers c =
-    omega (arith, c.parts_right-right.kept, c.volume_right.kept)
+    omega (arith, c.parts_right-right.auto, c.volume_right.auto)
 
 pub shape_of-third : goal.shape_of-third
 shape_of-third c =
-    omega (arith, c.parts_right-right.kept)
+    omega (arith, c.parts_right-right.auto)
 
 pub shape_of-places : goal.shape_of-places
 shape_of-places c =
-    omega (arith, c.parts_right-right.kept)
+    omega (arith, c.parts_right-right.auto)
 
 pub shape_of-marks : goal.shape_of-marks
 shape_of-marks c =
-    omega (arith, c.parts_right-right.kept, c.volume_right.kept)
+    omega (arith, c.parts_right-right.auto, c.volume_right.auto)
 
 pub returns : goal.returns
 returns c =
