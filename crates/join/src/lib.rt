@@ -1,4 +1,6 @@
 // New darts join a block: put among its darts by serial, then sewn to them or labelled.
+#![tactic(auto)]
+
 pub mod interleave; // interleave.rt: the darts of a draft put among those of the block, renumbered
 pub mod sewing; // sewing.rt: words 3 and 4 of the new darts, and of those they meet
 

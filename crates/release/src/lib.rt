@@ -1,4 +1,6 @@
 // Release, the paper's let go: a volume is taken out of a block, and the faces that it leaves behind are labelled.
+#![tactic(auto)]
+
 ghost use Rattle.std.specs.Prelude.{◌≡◌, true, ◌≤◌, length, replicate};
 ghost use Rattle.model.specs.Values.{room, rack, message_darts};
 ghost use Rattle.model.specs.Image.{words_of, count_in, is_image, holds_block};

@@ -6,14 +6,14 @@ use Rattle.join.proofs.join.Goals as goal
 
 pub sew-requires : goal.sew-requires
 sew-requires c =
-    let start : tie.Start = (search) in (
-      interleaved_size start.pre.1.3 c.insert.ensures.interleaved,
-      start.pre.1.0,
-      start.pre.1.1,
-      start.pre.1.2,
-      omega (arith, c.insert.kept, start.pre.0.0),
-      omega (arith, c.insert.kept, start.pre.0.1),
-      may_sew start.pre.1.3 _ _ c.insert.ensures.olds c.insert.ensures.news,
+    let d = c.requires.draft_in_bounds in (
+      interleaved_size d.3 c.insert.ensures.interleaved,
+      d.0,
+      d.1,
+      d.2,
+      omega (arith, c.insert.auto, c.requires.block_in_bounds.0),
+      omega (arith, c.insert.auto, c.requires.block_in_bounds.1),
+      may_sew d.3 _ _ c.insert.ensures.olds c.insert.ensures.news,
     )
 
 pub returns : goal.returns

@@ -24,7 +24,7 @@ let_go-requires c =
         firsts = _;
         departs = departs_told most block to serial' _ _ _ _ _ c.leaves.ensures.answer c.in-Volume.is;
       };
-      block_in_bounds = omega (arith, c.leaves.kept, c.requires.block_in_bounds_2.2);
+      block_in_bounds = omega (arith, c.leaves.auto, c.requires.block_in_bounds_2.2);
     }
 
 pub returns-in-Refused : goal.returns-in-Refused

@@ -1,4 +1,3 @@
-use Prim.Native.Nat.{◌-◌}
 use Rattle.release.proofs.Labelling.{turn, walking_start, across, walking_on, walking_end, same_end}
 use native.Mathlib.Omega.{arith}
 use Rattle.release.proofs.label.label_face.Goals as goal

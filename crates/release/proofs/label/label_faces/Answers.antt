@@ -1,5 +1,4 @@
 use mathlib.Core.Path.{sym, ◌∙◌}
-use Prim.Native.Nat.{◌-◌}
 use Rattle.release.proofs.Labelling.{facing_start, facing_end, sewing_stays, starting, face_skip, number_fits, face_one, one, order_few}
 use native.Mathlib.Omega.{arith}
 use Rattle.release.proofs.label.label_faces.Goals as goal

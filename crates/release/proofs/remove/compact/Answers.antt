@@ -1,10 +1,10 @@
-use Prim.Native.Nat.{◌+◌, ◌*◌, ◌-◌, ◌≤◌}
+use Prim.Native.Nat.{◌+◌, ◌*◌, ◌≤◌}
 use mathlib.Core.Path.{◌∙◌}
-use mathlib.Core.Logic.{⊎_elim}
 use lib.ListN.{length}
 use Rattle.release.proofs.Removing.{length_moved, moved_start, count_le, moved_none, moved_one, moved_end, links_fit, one_move}
 use native.Mathlib.Omega.{arith}
 use Rattle.release.proofs.remove.compact.Goals as goal
+use Rattle.release.proofs.remove.compact.Goals.{then-marks-i-ne1, else-marks-i-ne1}
 
 pub loop-i-init : goal.loop-i-init
 loop-i-init c =
@@ -41,9 +41,11 @@ loop-i-preserved c =
     let v = c.loop-i.invariant.1 in
     let fits : 8 + (c.loop-i.i + 1) * 8 ≤ length block = omega (arith, c.loop-i-test.true, c.requires.0.few, c.requires.0.size) in (
       omega arith,
-      ⊎_elim
-          (λ a. moved_one v fits a.0.taken (length_moved _ _ _) (one_move c.requires.0 table c.requires.3 v c.loop-i-test.true)
-          (a.5 ∙ a.2.ensures) a.6) (λ a. moved_none v fits a.0.left a.1 a.2) c.if-marks-i-ne1.branch,
+      elim c.if-marks-i-ne1.branch [
+        | then-marks-i-ne1 a ↦ moved_one v fits a.if-marks-i-ne1.true (length_moved _ _ _) (one_move c.requires.0 table c.requires.3 v c.loop-i-test.true)
+            (a.block-is ∙ a.move_record.ensures) a.w-is
+        | else-marks-i-ne1 a ↦ moved_none v fits a.if-marks-i-ne1.false a.block-is a.w-is
+      ],
     )
 
 pub shape_of-block : goal.shape_of-block

@@ -1,10 +1,9 @@
 use mathlib.Core.Path.{refl}
-use mathlib.Core.Logic.{⊎_elim}
-use Prim.Native.Nat.{◌-◌}
 use lib.ListN.{length-set}
 use Rattle.release.proofs.Removing.{ranking_start, kept_le, ranking_one, ranking_none, ranking_end}
 use native.Mathlib.Omega.{arith}
 use Rattle.release.proofs.remove.ranks.Goals as goal
+use Rattle.release.proofs.remove.ranks.Goals.{then-marks-p-ne1, else-marks-p-ne1}
 
 pub loop-p-init : goal.loop-p-init
 loop-p-init c =
@@ -36,8 +35,10 @@ loop-p-smaller c =
 
 pub loop-p-preserved : goal.loop-p-preserved
 loop-p-preserved c = (
-  ⊎_elim (λ a. ranking_one c.loop-p.invariant.0 c.loop-p-test.true c.requires.0 a.0.taken refl a.1)
-      (λ a. ranking_none c.loop-p.invariant.0 c.loop-p-test.true c.requires.0 a.0.left refl a.1) c.if-marks-p-ne1.branch,
+  elim c.if-marks-p-ne1.branch [
+    | then-marks-p-ne1 w ↦ ranking_one c.loop-p.invariant.0 c.loop-p-test.true c.requires.0 w.if-marks-p-ne1.true refl w.kept-is
+    | else-marks-p-ne1 w ↦ ranking_none c.loop-p.invariant.0 c.loop-p-test.true c.requires.0 w.if-marks-p-ne1.false refl w.kept-is
+  ],
   simp length-set c.loop-p.invariant.1,
 )
 
