@@ -50,12 +50,12 @@ module _ (lim : Limits) (m : List ℕ) {s v x b z : List ℕ} {f : Front} {l : T
     here_is : (t : Transfer) → TransferOutlined t s v x b z f l → here ≡ addressed t.from t.to (block_in m)
     here_is t w = seventeen ∙ ap (λ (a : ℕ). addressed a f.to (block_in m)) w.from_is ∙ ap (λ (a : ℕ). addressed t.from a (block_in m)) w.to_is
 
-    pub no_17 : {keys ranks q c kinds links : List ℕ} → not here ≡ true → AskedAll lim m s v x b z f l keys ranks q c kinds links (answer.Refused refusal.NotForHere)
+    pub no_17 : {keys ranks q c kinds links : List ℕ} → here ≡ false → AskedAll lim m s v x b z f l keys ranks q c kinds links (answer.Refused refusal.NotForHere)
     unfolding receive_checks
     no_17 h = record { said = λ t e w. alone _ (ask_no refl (said_no (here_is t w) h) refl) }
 
     -- 29
-    pub no_29 : {keys ranks q c kinds links : List ℕ} → not here ≡ false → lim.volume_darts < f.darts → AskedAll lim m s v x b z f l keys ranks q c kinds links (answer.Refused refusal.VolumeForViewer)
+    pub no_29 : {keys ranks q c kinds links : List ℕ} → here ≡ true → lim.volume_darts < f.darts → AskedAll lim m s v x b z f l keys ranks q c kinds links (answer.Refused refusal.VolumeForViewer)
     unfolding receive_checks
     no_29 yes-17 h = record {
       said = λ t e w. alone _ (ask_yes (said_yes (here_is t w) yes-17) (ask_no refl (lt-leb (size_all t.faces) lim.volume_darts (omega (arith, h, w.darts_are))) refl));
@@ -65,24 +65,24 @@ module _ (lim : Limits) (m : List ℕ) {s v x b z : List ℕ} {f : Front} {l : T
     small_is t w h = le-leb (size_all t.faces) lim.volume_darts (omega (arith, h, w.darts_are))
 
     -- 18
-    module _ (yes-17 : not here ≡ false) (yes-29 : f.darts ≤ lim.volume_darts) {keys ranks : List ℕ} {fresh : Bool} (fit : f.darts ≤ length x)
+    module _ (yes-17 : here ≡ true) (yes-29 : f.darts ≤ lim.volume_darts) {keys ranks : List ℕ} {fresh : Bool} (fit : f.darts ≤ length x)
         (eighteen : NewSerials (block_in m).darts s f.points f.vertices x f.darts keys ranks fresh) where
       new_is : (t : Transfer) → TransferOutlined t s v x b z f l → fresh ≡ serials_new (block_in m).darts t
       new_is t w = eighteen.is ∙ sym (eighteen_is (block_in m).darts (told_of w) fit)
 
-      pub no_18 : {q c kinds links : List ℕ} → not fresh ≡ true → AskedAll lim m s v x b z f l keys ranks q c kinds links (answer.Refused refusal.SerialsNotNew)
+      pub no_18 : {q c kinds links : List ℕ} → fresh ≡ false → AskedAll lim m s v x b z f l keys ranks q c kinds links (answer.Refused refusal.SerialsNotNew)
       unfolding receive_checks
       no_18 h = record { said = λ t e w. alone _ (ask_yes (said_yes (here_is t w) yes-17) (ask_yes (small_is t w yes-29) (ask_no refl (said_no (new_is t w) h) refl))) }
 
       -- 19
-      module _ (yes-18 : not fresh ≡ false) {right : Bool} (nineteen : (t : Transfer) → TransferTold t v x b z s f.points f.vertices f.darts f.hollow → right ≡ volume_right t) where
-        pub no_19 : {q c kinds links : List ℕ} → not right ≡ true → AskedAll lim m s v x b z f l keys ranks q c kinds links (answer.Refused refusal.VolumeWrong)
+      module _ (yes-18 : fresh ≡ true) {right : Bool} (nineteen : (t : Transfer) → TransferTold t v x b z s f.points f.vertices f.darts f.hollow → right ≡ volume_right t) where
+        pub no_19 : {q c kinds links : List ℕ} → right ≡ false → AskedAll lim m s v x b z f l keys ranks q c kinds links (answer.Refused refusal.VolumeWrong)
         unfolding receive_checks
         no_19 h = record { said = λ t e w. alone _ (ask_yes (said_yes (here_is t w) yes-17) (ask_yes (small_is t w yes-29) (ask_yes (said_yes (new_is t w) yes-18) (ask_no refl (said_no (nineteen t (told_of w)) h) refl)))) }
 
         -- 20
-        module _ (yes-19 : not right ≡ false) {kinds links : List ℕ} {parted : Bool} (twenty : Parted m s v x b z f l kinds links parted) where
-          pub no_20 : {q c : List ℕ} → not parted ≡ true → AskedAll lim m s v x b z f l keys ranks q c kinds links (answer.Refused refusal.PartsWrong)
+        module _ (yes-19 : right ≡ true) {kinds links : List ℕ} {parted : Bool} (twenty : Parted m s v x b z f l kinds links parted) where
+          pub no_20 : {q c : List ℕ} → parted ≡ false → AskedAll lim m s v x b z f l keys ranks q c kinds links (answer.Refused refusal.PartsWrong)
           unfolding receive_checks
           no_20 h = record {
             said = λ t e w. alone _ (ask_yes (said_yes (here_is t w) yes-17) (ask_yes (small_is t w yes-29) (ask_yes (said_yes (new_is t w) yes-18) (ask_yes (said_yes (nineteen t (told_of w)) yes-19)
@@ -90,7 +90,7 @@ module _ (lim : Limits) (m : List ℕ) {s v x b z : List ℕ} {f : Front} {l : T
           }
 
           -- 21
-          module _ (yes-20 : not parted ≡ false) where
+          module _ (yes-20 : parted ≡ true) where
             pub no_21 : {q c : List ℕ} → lim.block_darts < get_or m 2 0 + f.darts → AskedAll lim m s v x b z f l keys ranks q c kinds links (answer.Refused refusal.BlockFull)
             unfolding receive_checks
             no_21 h = record {
@@ -126,9 +126,9 @@ module _ (lim : Limits) (m : List ℕ) {s v x b z : List ℕ} {f : Front} {l : T
           last_asked {q} {c} d {r} e = subst (AskedAll lim m s v x b z f l keys ranks q c kinds links) (sym e) (go parted (leb (get_or m 2 0 + f.darts) lim.block_darts) refl refl)
             where
               go : (p o : Bool) → parted ≡ p → leb (get_or m 2 0 + f.darts) lim.block_darts ≡ o → AskedAll lim m s v x b z f l keys ranks q c kinds links (last_two p o)
-              go false o i j = no_20 (ap not i)
-              go true false i j = no_21 (ap not i) (leb-false (get_or m 2 0 + f.darts) lim.block_darts j)
-              go true true i j = yes_all (ap not i) (leb-true (get_or m 2 0 + f.darts) lim.block_darts j) d
+              go false o i j = no_20 i
+              go true false i j = no_21 i (leb-false (get_or m 2 0 + f.darts) lim.block_darts j)
+              go true true i j = yes_all i (leb-true (get_or m 2 0 + f.darts) lim.block_darts j) d
 
 -- serials of a message are small
 elem_tab : {A : Type 0} (g : ℕ → A) (n i : ℕ) → i < n → Elem (g i) (tab g n)
@@ -148,8 +148,8 @@ sender_small {s} {t = t} bytes e w = let a = (fits t (transfer_read s bytes t e)
 
 -- what question 20 asks of a transfer
 pub new_volume : {m s v x b z : List ℕ} {f : Front} {l : Tail} {keys ranks q c : List ℕ} {fresh right : Bool}
-    → NewSerials (block_in m).darts s f.points f.vertices x f.darts keys ranks fresh → not fresh ≡ false
-    → ((t : Transfer) → TransferTold t v x b z s f.points f.vertices f.darts f.hollow → right ≡ volume_right t) → not right ≡ false → Draft v x b z keys ranks q s f.points f.darts c
+    → NewSerials (block_in m).darts s f.points f.vertices x f.darts keys ranks fresh → fresh ≡ true
+    → ((t : Transfer) → TransferTold t v x b z s f.points f.vertices f.darts f.hollow → right ≡ volume_right t) → right ≡ true → Draft v x b z keys ranks q s f.points f.darts c
     → {t : Transfer} → TransferOutlined t s v x b z f l → NewVolume m s v x b z f l ranks c
 new_volume {m} {s} {v} {x} {b} {z} {f} {l} {keys} {ranks} {q} {c} eighteen yes-18 nineteen yes-19 d {t} w = record {
   keys = keys;

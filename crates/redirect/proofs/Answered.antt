@@ -6,11 +6,11 @@ use Prim.Native.Nat.{ℕ, ◌+◌, ◌*◌, ◌<◌}
 use native.Mathlib.Omega.{arith}
 use lib.Dec.{ltb, eqb}
 use lib.ListN.{length, get_or}
-use borrow.Author.Tests.{eq-eqb, ne_eqb, not-true, not-false}
+use borrow.Author.Tests.{eq-eqb, ne_eqb}
 use Rattle.model.specs.Lists.{all, distinct}
 use Rattle.model.specs.Values.{Limits, code}
 use Rattle.model.specs.Image.{words_of, image, block_in, is_image, holds_block, memory_checks}
-use Rattle.model.specs.Messages.{Transfer, Update, Message, a_transfer, an_update, no_message, message_in}
+use Rattle.model.specs.Messages.{Update, Message, a_transfer, an_update, no_message, message_in}
 use Rattle.model.specs.Arrival.{addressed, names_face, update_right, redirect_checks, redirected, redirected_from}
 use Rattle.model.specs.Calls.{Answer, served, refused, storing, redirect}
 use Rattle.laws.proofs.Tests.{and_intro, and_left}
@@ -106,10 +106,10 @@ module _ (m : List ℕ) (ok : holds_block m ≡ true) where
     here_is : (u : Update) → UpdateOutlined u s o → here ≡ addressed u.from u.to (block_in m)
     here_is u w = asks-here ∙ ap (λ (a : ℕ). addressed a o.to (block_in m)) w.from_is ∙ ap (λ (a : ℕ). addressed u.from a (block_in m)) w.to_is
 
-    pub redirects_elsewhere : not here ≡ true → Redirects m s o (refused 17) m
+    pub redirects_elsewhere : here ≡ false → Redirects m s o (refused 17) m
     redirects_elsewhere e = record { gives = λ lim size is u w. here_no lim m size is u (said_no (here_is u w) e) }
 
-    module _ (yes-here : not here ≡ false) {ends : Bool} (asks-ends : ends ≡ (not (eqb o.block o.from) && not (eqb o.block o.to))) where
+    module _ (yes-here : here ≡ true) {ends : Bool} (asks-ends : ends ≡ (not (eqb o.block o.from) && not (eqb o.block o.to))) where
       ends_are : (u : Update) → UpdateOutlined u s o → ends ≡ (not (eqb u.block u.from) && not (eqb u.block u.to))
       ends_are u w = asks-ends ∙ ap (λ (a : ℕ). not (eqb a o.from) && not (eqb a o.to)) w.block_is ∙ ap (λ (a : ℕ). not (eqb u.block a) && not (eqb u.block o.to)) w.from_is
           ∙ ap (λ (a : ℕ). not (eqb u.block u.from) && not (eqb u.block a)) w.to_is
@@ -118,8 +118,8 @@ module _ (m : List ℕ) (ok : holds_block m ≡ true) where
       right_by u w = right_is u ∙ ap (λ (b : Bool). b && (all (names_at m u.from) (map code u.labels) && distinct (map code u.labels))) (sym (ends_are u w))
           ∙ ap (λ (a : ℕ). ends && (all (names_at m a) (map code u.labels) && distinct (map code u.labels))) (sym w.from_is)
 
-      pub redirects_to_an_end : not ends ≡ true → Redirects m s o (refused 22) m
-      redirects_to_an_end e = record { gives = λ lim size is u w. right_no lim m size is u (said_yes (here_is u w) yes-here) (right_by u w ∙ rw (not-true ends e)) }
+      pub redirects_to_an_end : ends ≡ false → Redirects m s o (refused 22) m
+      redirects_to_an_end e = record { gives = λ lim size is u w. right_no lim m size is u (said_yes (here_is u w) yes-here) (right_by u w ∙ rw e) }
 
       labels_no : ((u : Update) → UpdateOutlined u s o → (all (names_at m o.from) (map code u.labels) && distinct (map code u.labels)) ≡ false) → Redirects m s o (refused 22) m
       labels_no k = record { gives = λ lim size is u w. right_no lim m size is u (said_yes (here_is u w) yes-here) (right_by u w ∙ and_no ends _ (k u w)) }
@@ -128,10 +128,10 @@ module _ (m : List ℕ) (ok : holds_block m ≡ true) where
       redirects_too_many h = labels_no (λ u w. too_many (sited m ok).linked refl o.from u.labels w.labels_in h)
 
       module _ {table : List ℕ} {named : Bool} (n : AllNamed m s o.from o.labels o.count table named) where
-        pub redirects_unnamed : not named ≡ true → Redirects m s o (refused 22) m
-        redirects_unnamed e = labels_no (λ u w. sym (n.said u.labels w.past w.labels_in) ∙ not-true named e)
+        pub redirects_unnamed : named ≡ false → Redirects m s o (refused 22) m
+        redirects_unnamed e = labels_no (λ u w. sym (n.said u.labels w.past w.labels_in) ∙ e)
 
-        pub redirects_served : not ends ≡ false → not named ≡ false → Follows s o → {m' : List ℕ}
+        pub redirects_served : ends ≡ true → named ≡ true → Follows s o → {m' : List ℕ}
             → Rewritten m m' (λ p. ltb (get_or table p 0) o.count) (2 + 4 * o.block) (get_or m 2 0)
             → Redirects m s o (served tt) m'
         redirects_served e k small {m'} r = record { gives = go }
@@ -139,11 +139,11 @@ module _ (m : List ℕ) (ok : holds_block m ≡ true) where
             go : (lim : Limits) → length m ≡ words_of lim → is_image lim m ≡ true → (u : Update) → UpdateOutlined u s o → Gives (redirect_by lim m (an_update u)) (served tt) m'
             go lim size is u w =
                 let site = sited m ok in
-                let said = sym (n.said u.labels w.past w.labels_in) ∙ not-false named k in
+                let said = sym (n.said u.labels w.past w.labels_in) ∙ k in
                 let names : all (names_face (darts_in m) u.from) u.labels ≡ true = names_all site (image_passed m ok) u.from u.labels
                 ∙ ap (λ (a : ℕ). all (names_at m a) (map code u.labels)) (sym w.from_is) ∙ and_left (all (names_at m o.from) (map code u.labels)) (distinct (map code u.labels)) said in
-                let by-labels = rewritten_by (λ p h. n.tells (not-false named k) u.labels w.past w.labels_in p h) r in
-                all_yes lim m size is u (said_yes (here_is u w) yes-here) (right_by u w ∙ and_intro (not-false ends e) said)
+                let by-labels = rewritten_by (λ p h. n.tells k u.labels w.past w.labels_in p h) r in
+                all_yes lim m size is u (said_yes (here_is u w) yes-here) (right_by u w ∙ and_intro e said)
                 (memory_now site (image_passed m ok) u names (let a = w.block_is in let b = w.block_small in omega arith) (by_outline u w by-labels) site.linked.size
                 ∙ ap (λ (k : ℕ). image k (redirected (block_in m) u)) size)
               where

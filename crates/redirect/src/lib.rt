@@ -1,4 +1,6 @@
 // Redirect, the paper's tell: an update names critical faces by their least labels, and they get a new other block.
+#![tactic(auto)]
+
 mod least; // least.rt: along a face
 mod codes; // codes.rt: the labels of an update, as codes in order
 mod named; // named.rt: the faces that they name

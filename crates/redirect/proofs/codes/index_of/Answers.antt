@@ -1,10 +1,10 @@
 use mathlib.Core.Path.{refl}
-use mathlib.Core.Logic.{⊎_elim}
 use lib.ListN.{get_or}
 use Rattle.memory.proofs.Lookups.{halving_start, halving_up, halving_down}
 use Rattle.redirect.proofs.ReadCodes.{halved, halved_none, none_among}
 use native.Mathlib.Omega.{arith}
 use Rattle.redirect.proofs.codes.index_of.Goals as goal
+use Rattle.redirect.proofs.codes.index_of.Goals.{then-codes-mid, else-codes-mid}
 
 pub returns-then-c-eq0 : goal.returns-then-c-eq0
 returns-then-c-eq0 c =
@@ -24,10 +24,10 @@ bounds-codes-mid c =
 
 pub loop-left-preserved : goal.loop-left-preserved
 loop-left-preserved c =
-    ⊎_elim
-    (λ w. rw w.1 (halving_up c.requires.2 c.loop-left.invariant c.loop-left-test.true refl (omega (arith, w.0.taken))))
-    (λ w. rw w.1 (halving_down c.requires.2 c.loop-left.invariant c.loop-left-test.true refl (omega (arith, w.0.left))))
-    c.if-codes-mid.branch
+    elim c.if-codes-mid.branch [
+      | then-codes-mid w ↦ rw w.low-is (halving_up c.requires.2 c.loop-left.invariant c.loop-left-test.true refl (omega (arith, w.if-codes-mid.true)))
+      | else-codes-mid w ↦ rw w.low-is (halving_down c.requires.2 c.loop-left.invariant c.loop-left-test.true refl (omega (arith, w.if-codes-mid.false)))
+    ]
 
 pub offset_bounds-codes-low : goal.offset_bounds-codes-low
 offset_bounds-codes-low c =

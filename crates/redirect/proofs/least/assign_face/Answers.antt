@@ -1,4 +1,3 @@
-use Prim.Native.Nat.{◌-◌}
 use lib.ListN.{length-set}
 use Rattle.cells.proofs.Paths.{round, going_start, going_next, assign_none, assign_next, assign_last}
 use native.Mathlib.Omega.{arith}

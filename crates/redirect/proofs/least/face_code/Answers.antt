@@ -1,4 +1,3 @@
-use Prim.Native.Nat.{◌-◌}
 use Rattle.model.specs.Image.{column}
 use Rattle.cells.proofs.Paths.{round, going_start, going_next}
 use Rattle.redirect.proofs.Lows.{lowest_start, lowest_next, lowest_end, code_end}

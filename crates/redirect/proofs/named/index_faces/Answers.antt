@@ -1,5 +1,4 @@
 use mathlib.Core.Path.{refl, ◌∙◌, sym}
-use Prim.Native.Nat.{◌-◌}
 use lib.ListN.{length-set}
 use Rattle.redirect.proofs.Indices.{indexing_start, indexing_skip, indexing_away, indexing_whole, indexing_end, index_few, index_away, index_there, linked_by}
 use Rattle.redirect.proofs.Hits.{hitting_start, hitting_face, hitting_end}

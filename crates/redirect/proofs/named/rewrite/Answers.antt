@@ -1,4 +1,3 @@
-use Prim.Native.Nat.{◌-◌}
 use Rattle.redirect.proofs.Rewriting.{rewritten_start, rewriting_skip, rewriting_set, rewritten_end}
 use native.Mathlib.Omega.{arith}
 use Rattle.redirect.proofs.named.rewrite.Goals as goal
