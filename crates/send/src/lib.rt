@@ -1,4 +1,6 @@
 // Send, the paper's write: the block stays, and the messages of a volume that leaves go into the outbox.
+#![tactic(auto)]
+
 pub mod messages; // messages.rt: the transfer and the updates of a surveyed volume
 pub mod volume; // volume.rt: questions 9 to 15 of a sound block
 
