@@ -1,5 +1,5 @@
 -- The counts of a block, in the model's terms: darts, volumes, pieces, critical faces, counter. Assumes nothing.
-use Rattle.std.specs.Prelude.{Bool, true, false, cond, List, ℕ, ◌%◌, eqb, length}
+use Rattle.std.specs.Prelude.{Bool, true, false, cond, List, ℕ, length}
 use Rattle.model.specs.Lists.{keep}
 use Rattle.model.specs.Values.{Third, free, sewn, critical, Dart, Block}
 use Rattle.model.specs.Cells.{faces, start_of, serials, next_in, third_at}

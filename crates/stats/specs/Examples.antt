@@ -1,5 +1,5 @@
 -- Small blocks whose pieces and rows are computed: two pillows sewn together, two apart, and one with a critical face. Assumes nothing.
-use Rattle.std.specs.Prelude.{◌≡◌, refl, List, [], ◌∷◌, ◌++◌, ℕ, replicate}
+use Rattle.std.specs.Prelude.{◌≡◌, refl, List, [], ◌∷◌, ◌++◌, replicate}
 use Rattle.model.specs.Values.{free, critical, Dart}
 use Rattle.model.specs.Everything.{everything}
 use Rattle.model.specs.Figures.{dart, pillow, sewn_pillows}

@@ -1,4 +1,6 @@
 // What a block has, counted: darts, volumes, pieces, critical faces; and its counter.
+#![tactic(auto)]
+
 ghost use Rattle.std.specs.Prelude.{◌≡◌};
 ghost use Rattle.stats.specs.BlockCounts.{block_counts};
 

@@ -1,5 +1,4 @@
 use mathlib.Core.Path.{refl, sym, ap, ◌∙◌}
-use Prim.Native.Nat.{◌-◌}
 use Rattle.model.specs.Lists.{tab}
 use Rattle.model.specs.Cells.{faces, start_of}
 use Rattle.model.specs.Image.{column}

@@ -1,5 +1,4 @@
 use mathlib.Core.Path.{refl}
-use Prim.Native.Nat.{◌-◌}
 use Rattle.stats.proofs.Numbering.{enter_ready, queue_le, going_start, going_place, going_step, going_assigned}
 use native.Mathlib.Omega.{arith}
 use Rattle.stats.proofs.groups.add_group.Goals as goal
@@ -39,19 +38,19 @@ loop-head-smaller c =
 
 pub loop-head-preserved : goal.loop-head-preserved
 loop-head-preserved c = (
-  omega (arith, c.enter_links-end.kept, c.loop-head.invariant.0),
-  omega (arith, c.enter_links-end.kept, c.loop-head.invariant.1),
+  omega (arith, c.enter_links-end.auto, c.loop-head.invariant.0),
+  omega (arith, c.enter_links-end.auto, c.loop-head.invariant.1),
   λ G o q x. going_step c.requires.joined.0 c.args.third c.requires.joined.1 c.requires.joined.2 q (c.loop-head.invariant.2 G o q x) c.loop-head-test.true
       c.enter_links-end.ensures,
 )
 
 pub shape_of-order : goal.shape_of-order
 shape_of-order c =
-    omega (arith, c.enter-end.kept, c.loop-head.invariant.0)
+    omega (arith, c.enter-end.auto, c.loop-head.invariant.0)
 
 pub shape_of-groups : goal.shape_of-groups
 shape_of-groups c =
-    omega (arith, c.enter-end.kept, c.loop-head.invariant.1)
+    omega (arith, c.enter-end.auto, c.loop-head.invariant.1)
 
 pub returns : goal.returns
 returns c =
@@ -59,5 +58,5 @@ returns c =
     record {
       queue = w.queue;
       assigned = going_assigned c.requires.joined.0 c.args.third c.requires.joined.1 c.requires.joined.2 c.requires.queued.0 c.requires.queued.1 c.requires.queued.2
-          w c.loop-head-test.false (omega (arith, c.enter-end.kept, c.loop-head.invariant.1));
+          w c.loop-head-test.false (omega (arith, c.enter-end.auto, c.loop-head.invariant.1));
     }

@@ -1,5 +1,4 @@
 use mathlib.Core.Path.{refl, ◌∙◌}
-use Prim.Native.Nat.{◌-◌}
 use lib.ListN.{length-set}
 use Rattle.stats.proofs.Numbering.{through_start, through_skip, through_new, through_all, count_few}
 use native.Mathlib.Omega.{arith}
@@ -61,9 +60,9 @@ loop-p-smaller c =
 pub loop-p-preserved : goal.loop-p-preserved
 loop-p-preserved c = (
   through_new c.requires.joined.0 c.loop-p.invariant.0 c.loop-p-test.true c.if-groups-p-ne0.false c.add_group-tail.ensures.queue c.add_group-tail.ensures.assigned,
-  omega (arith, c.add_group-tail.kept, c.loop-p.invariant.1),
+  omega (arith, c.add_group-tail.auto, c.loop-p.invariant.1),
   length-set c.loop-p.firsts _ _ ∙ c.loop-p.invariant.2,
-  omega (arith, c.add_group-tail.kept, c.loop-p.invariant.3),
+  omega (arith, c.add_group-tail.auto, c.loop-p.invariant.3),
 )
 
 pub shape_of-groups : goal.shape_of-groups

@@ -10,7 +10,8 @@ use Rattle.stats.proofs.rows.cell_figures.Goals as goal
 
 pub returns-then-not-is_sound : goal.returns-then-not-is_sound
 returns-then-not-is_sound c =
-    told_unsound c.args.block.now c.args.rows.now (sym c.is_sound.ensures ∙ c.if-not-is_sound.true)
+    let t = told_unsound c.args.block.now c.args.rows.now (sym c.is_sound.ensures ∙ c.if-not-is_sound.true) in
+    record { answer = t.0; rows = t.1 }
 
 pub number-count-requires : goal.number-count-requires
 number-count-requires c =
@@ -28,7 +29,8 @@ pub returns-then-rows-count : goal.returns-then-rows-count
 returns-then-rows-count c =
     let ok = sym c.is_sound.ensures ∙ c.if-not-is_sound.false in
     let m = c.args.block.now in
-    told_short m c.args.rows.now ok (count_is m ok c.number-count.ensures) c.if-rows-count.true
+    let t = told_short m c.args.rows.now ok (count_is m ok c.number-count.ensures) c.if-rows-count.true in
+    record { answer = t.0; rows = t.1 }
 
 pub tell-requires : goal.tell-requires
 tell-requires c =
@@ -38,4 +40,5 @@ pub returns : goal.returns
 returns c =
     let ok = sym c.is_sound.ensures ∙ c.if-not-is_sound.false in
     let m = c.args.block.now in
-    told_cells m c.args.rows.now ok (count_is m ok c.number-count.ensures) c.if-rows-count.false c.tell.ensures
+    let t = told_cells m c.args.rows.now ok (count_is m ok c.number-count.ensures) c.if-rows-count.false c.tell.ensures in
+    record { answer = t.0; rows = t.1 }

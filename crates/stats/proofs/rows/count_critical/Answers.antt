@@ -1,5 +1,5 @@
 use mathlib.Core.Path.{sym, ap, ◌∙◌}
-use Prim.Native.Nat.{ℕ, ◌-◌}
+use Prim.Native.Nat.{ℕ}
 use Rattle.stats.specs.Counting.{cell_word}
 use Rattle.stats.proofs.CountLaws.{word_ready, add_ready, word_there, faces_start, faces_few, face_below, faces_skip, faces_more, faces_all}
 use native.Mathlib.Omega.{arith}

@@ -1,4 +1,3 @@
-use Prim.Native.Nat.{◌-◌}
 use Rattle.stats.proofs.CountLaws.{word_ready, darts_start, darts_ready, darts_more, darts_all}
 use native.Mathlib.Omega.{arith}
 use Rattle.stats.proofs.rows.count_darts.Goals as goal

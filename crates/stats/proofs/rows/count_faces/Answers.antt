@@ -1,6 +1,6 @@
 use mathlib.Core.Path.{refl, subst}
 use mathlib.Core.List.{List}
-use Prim.Native.Nat.{ℕ, ◌-◌}
+use Prim.Native.Nat.{ℕ}
 use Rattle.stats.specs.Counting.{cell_word, CountTold, face_starts}
 use Rattle.stats.proofs.CountLaws.{keep_every, word_ready, add_ready, word_there, faces_start, faces_few, face_below, faces_more, faces_all}
 use native.Mathlib.Omega.{arith}

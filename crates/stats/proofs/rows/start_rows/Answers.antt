@@ -1,4 +1,3 @@
-use Prim.Native.Nat.{◌-◌}
 use Rattle.stats.proofs.CountLaws.{heading_start, heading_more, heading_all}
 use native.Mathlib.Omega.{arith}
 use Rattle.stats.proofs.rows.start_rows.Goals as goal
