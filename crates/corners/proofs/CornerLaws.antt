@@ -1,5 +1,5 @@
 -- Sums of points along a list, and the corners of a cell by place. Assumes nothing.
-use Rattle.std.proofs.Common.{◌≡◌, ℕ, ◌+◌, ◌<◌, true, false, List, [], ◌∷◌, ◌++◌, map, length, get_or, take, sym, refl, ap, ◌∙◌, add-one, arith, length-take-le, take-suc}
+use Rattle.std.proofs.Common.{◌≡◌, ℕ, ◌+◌, ◌<◌, true, false, List, [], ◌∷◌, ◌++◌, map, length, get_or, take, sym, refl, ap, ◌∙◌, add-one, length-take-le, take-suc}
 use lib.ListN.{length-map}
 use Rattle.model.specs.Values.{Point as Patterns}
 use Rattle.model.specs.Cells.{faces, held}

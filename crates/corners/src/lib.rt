@@ -1,5 +1,7 @@
 // The corners of a cell and the mean of their points. The corners are the cell's vertices, each once, in message order; their coordinates
 // are added in this order as floats, and divided by how many there are.
+#![tactic(auto)]
+
 ghost use Rattle.std.specs.Prelude.{◌≡◌, ℕ, ◌<◌, ◌≤◌, true, map, length, take, slice_index};
 ghost use Rattle.model.specs.Values.{room};
 ghost use Rattle.model.specs.Image.{dart_in, holds_block};

@@ -1,4 +1,4 @@
-use Rattle.std.proofs.Common.{◌≡◌, ℕ, ◌-◌, map, take, ap, ◌∙◌, arith}
+use Rattle.std.proofs.Common.{◌≡◌, ℕ, map, take, ap, ◌∙◌, arith}
 use Rattle.model.specs.Image.{dart_in}
 use Rattle.corners.specs.Corners.{sum_of}
 use Rattle.corners.proofs.CornerLaws.{sum_none, sum_next}
