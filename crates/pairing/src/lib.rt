@@ -1,4 +1,6 @@
 // Questions 25 and 26 of a whole mesh: the keys of its critical darts, put in order and tested two by two.
+#![tactic(auto)]
+
 pub mod dart; // dart.rt: the darts of a mesh by number, and tests of two
 pub mod keys; // keys.rt: the keys of all critical darts, in order
 pub mod before; // before.rt: where each dart's previous one stands

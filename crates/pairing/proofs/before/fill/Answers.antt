@@ -1,4 +1,3 @@
-use Prim.Native.Nat.{◌-◌}
 use mathlib.Core.Path.{◌∙◌, sym}
 use Rattle.pairing.proofs.ByNumber.{table_none, table_all}
 use Rattle.pairing.proofs.before.fill.Goals as goal

@@ -1,4 +1,3 @@
-use Prim.Native.Nat.{◌-◌}
 use mathlib.Core.Path.{◌∙◌, sym}
 use Rattle.pairing.proofs.InBlocks.{few}
 use Rattle.pairing.proofs.ToldBy.{place_in}

@@ -1,4 +1,3 @@
-use Prim.Native.Nat.{◌-◌}
 use Rattle.pairing.proofs.Steps.{putting_none, putting_more, putting_room, putting_end}
 use Rattle.pairing.proofs.keys.put_keys.Goals as goal
 

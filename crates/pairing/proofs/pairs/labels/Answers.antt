@@ -1,5 +1,4 @@
 use lib.ListN.{length}
-use Prim.Native.Nat.{◌-◌}
 use Rattle.pairing.proofs.Steps.{pairs_all, pairs_more, pairs_no, pairs_end, two_there}
 use Rattle.pairing.proofs.pairs.labels.Goals as goal
 

@@ -1,5 +1,5 @@
 use lib.ListN.{length}
-use Prim.Native.Nat.{◌-◌, ◌+◌}
+use Prim.Native.Nat.{◌+◌}
 use Rattle.pairing.proofs.Steps.{each_all, each_more, each_no, each_end, two_there, first_of}
 use Rattle.pairing.proofs.pairs.points.Goals as goal
 
