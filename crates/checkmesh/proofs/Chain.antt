@@ -1,6 +1,6 @@
 -- The questions of a whole mesh in a row: what each no answers, and what the last yes says. Assumes nothing.
 use mathlib.Core.Path.{◌≡◌, refl, sym, ◌∙◌}
-use mathlib.Core.Bool.{Bool, true, false, cond, not}
+use mathlib.Core.Bool.{Bool, true, false, cond}
 use mathlib.Core.List.{List, [], map}
 use Prim.Native.Nat.{ℕ}
 use native.Mathlib.Omega.{arith}
@@ -40,22 +40,22 @@ module _ (viewers : ℕ) (m s : List ℕ) where
   checks = whole_mesh_checks (limits_in viewers) m s
 
   -- 1, 2, 23, 24
-  pub size_no : {r : Bool} → r ≡ mesh_lent scratch_entries m s → not r ≡ true → refused 1 ≡ answered checks
+  pub size_no : {r : Bool} → r ≡ mesh_lent scratch_entries m s → r ≡ false → refused 1 ≡ answered checks
   unfolding whole_mesh_checks
   size_no e f = alone _ (ask_no refl (said_no e f) refl)
 
-  pub image_no : mesh_lent scratch_entries m s ≡ true → {r : Bool} → r ≡ all (sound_memory viewers) (memories m) → not r ≡ true → refused 2 ≡ answered checks
+  pub image_no : mesh_lent scratch_entries m s ≡ true → {r : Bool} → r ≡ all (sound_memory viewers) (memories m) → r ≡ false → refused 2 ≡ answered checks
   unfolding whole_mesh_checks
   image_no a e f = alone _ (ask_yes a (ask_no refl (said_no e f) refl))
 
   pub numbers_no : mesh_lent scratch_entries m s ≡ true → all (sound_memory viewers) (memories m) ≡ true → {r : Bool}
-      → r ≡ blocks_right (map block_in (memories m)) → not r ≡ true → refused 23 ≡ answered checks
+      → r ≡ blocks_right (map block_in (memories m)) → r ≡ false → refused 23 ≡ answered checks
   unfolding whole_mesh_checks mesh_checks
   numbers_no a b e f = alone _ (ask_yes a (ask_yes b (ask_no refl (said_no e f) refl)))
 
   pub serials_no : mesh_lent scratch_entries m s ≡ true → all (sound_memory viewers) (memories m) ≡ true
       → blocks_right (map block_in (memories m)) ≡ true → {r : Bool} → r ≡ serials_distinct (map block_in (memories m))
-      → not r ≡ true
+      → r ≡ false
       → refused 24 ≡ answered checks
   unfolding whole_mesh_checks mesh_checks
   serials_no a b c e f = alone _ (ask_yes a (ask_yes b (ask_yes c (ask_no refl (said_no e f) refl))))
@@ -74,13 +74,13 @@ module _ (viewers : ℕ) (m s : List ℕ) where
 
     -- 27
     module _ (e : p ≡ Right) {r : Bool} (f : r ≡ makers_right (map block_in (memories m))) where
-      pub makers_no : not r ≡ true → refused 27 ≡ answered checks
+      pub makers_no : r ≡ false → refused 27 ≡ answered checks
       unfolding whole_mesh_checks mesh_checks
       makers_no g =
           let k = right_says _ _ (sym told ∙ e) in
           alone _ (ask_yes w.lent (ask_yes w.images (ask_yes w.numbered (ask_yes w.serials (ask_yes k.0 (ask_yes k.1 (ask_no refl (said_no f g) refl)))))))
 
-      pub all_yes : not r ≡ false → served tt ≡ answered checks
+      pub all_yes : r ≡ true → served tt ≡ answered checks
       unfolding whole_mesh_checks mesh_checks
       all_yes g =
           let k = right_says _ _ (sym told ∙ e) in

@@ -1,4 +1,6 @@
 // Check mesh: questions 1, 2 and 23 to 27 of a whole mesh, in their order.
+#![tactic(auto)]
+
 ghost use Rattle.std.specs.Prelude.{◌≡◌};
 ghost use Rattle.model.specs.Values.{limits_in};
 ghost use Rattle.model.specs.Calls.{whole_mesh_checks, check_mesh};

@@ -1,27 +1,27 @@
 -- The call's answers: questions 1 and 3, then 5 to 7 of the block that the pages have, under the least counter. Assumes nothing.
 use mathlib.Core.Path.{◌≡◌, refl, sym, ap, ◌∙◌}
-use mathlib.Core.Bool.{Bool, true, false, true≢false, not, ◌&&◌}
+use mathlib.Core.Bool.{Bool, true, false, true≢false, ◌&&◌}
 use mathlib.Core.List.{List, [], ◌∷◌, map}
 use mathlib.Core.Option.{Option, none, some}
 use mathlib.Core.Logic.{◌≢◌, ⊎_elim}
 use Prim.Native.Nat.{ℕ, ◌^◌, ◌≤◌, ◌<◌}
 use native.Mathlib.Omega.{arith}
-use lib.Dec.{ltb, eqb}
+use lib.Dec.{ltb}
 use lib.ListN.{length, get_or, set, length-map}
-use borrow.Author.Tests.{eq-eqb, ne_eqb, lt-ltb, le-ltb, not-true, not-false}
-use Rattle.laws.proofs.Tests.{by_cases, and_left, lt_or_ge}
+use borrow.Author.Tests.{eq-eqb, ne_eqb, lt-ltb, le-ltb}
+use Rattle.laws.proofs.Tests.{by_cases, lt_or_ge}
 use Rattle.model.specs.Lists.{all, is_some, first_no, tab, Check}
 use Rattle.model.specs.Values.{room, number_bound, Block, Dart, Limits, widest}
 use Rattle.model.specs.Cells.{labels}
 use Rattle.model.specs.Sound.{ranges_right, links_right, thirds_right, label_right, labels_right}
 use Rattle.model.specs.Layouts.{whole}
 use Rattle.model.specs.Image.{words_for, words_of, image, count_in, counter_above, new_block}
-use Rattle.model.specs.Pages.{Row, Paged, dart_of, block_of, paged_ok, pages, or_no_pages, paged_checks}
-use Rattle.model.specs.Calls.{Answer, served, refused, Result, asked, storing, read_pages}
+use Rattle.model.specs.Pages.{Paged, dart_of, block_of, paged_ok, pages, paged_checks}
+use Rattle.model.specs.Calls.{Answer, refused, asked, storing, read_pages}
 use Rattle.model.specs.Demands.{Bytes}
 use Rattle.theory.proofs.LayoutLaws.{whole_only}
 use Rattle.theory.proofs.CallLaws.{refused_gives}
-use Rattle.theory.proofs.PageLaws.{PagedRight, paged_right, pages_lawful}
+use Rattle.theory.proofs.PageLaws.{paged_right, pages_lawful}
 use Rattle.theory.proofs.BareBlocks.{least_most, counted_ranges}
 use Rattle.theory.proofs.ImageLaws.{ranges_fit}
 use Rattle.answers.specs.Answers.{Gives}
@@ -30,7 +30,7 @@ use Rattle.newblock.specs.Serials.{raw, raw_dart, raw_block, InSerials}
 use Rattle.newblock.specs.Checks.{link_checks, storing_links}
 use Rattle.newblock.proofs.Imaged.{raw_length, raw_back, raw_count, in_serials}
 use Rattle.readpages.specs.Counters.{capped}
-use Rattle.readpages.specs.Raw.{uncounted, RawRead}
+use Rattle.readpages.specs.Raw.{RawRead}
 use Rattle.readpages.proofs.Counting.{capped_small, capped_large}
 
 -- QUESTION 7: a counter that is too large is refused as the greatest one that some label reaches
@@ -65,6 +65,18 @@ module _ (me : ℕ) (ds : List Dart) where
   unfolding link_checks paged_checks
   same_checks = ap (λ (b : Bool). (5, links_right ds) ∷ (6, thirds_right ds) ∷ (7, b) ∷ []) capped_right
 
+  -- a counter that is too large has its no
+  three : (a b : Bool) → first_no ((5, a) ∷ (6, b) ∷ (7, false) ∷ []) ≢ 0
+  three false b e = let z : ◌≡◌ {A = ℕ} 5 0 = unfold first_no in e in omega (arith, z)
+  three true false e = let z : ◌≡◌ {A = ℕ} 6 0 = unfold first_no in e in omega (arith, z)
+  three true true e = let z : ◌≡◌ {A = ℕ} 7 0 = unfold first_no in e in omega (arith, z)
+
+  full : number_bound ≤ least → first_no (paged_checks (under least)) ≢ 0
+  unfolding paged_checks
+  full g e = three (links_right ds) (thirds_right ds)
+      (ap (λ (b : Bool). first_no ((5, links_right ds) ∷ (6, thirds_right ds) ∷ (7, b) ∷ [])) (sym (ap (λ (b : Bool). labels_right (under least) && b) (le-ltb least number_bound g) ∙ and_false (labels_right (under least))))
+      ∙ e)
+
   -- what is stored after a yes is the same
   pub same_stored : (m : List ℕ) (size : ℕ) → asked (link_checks (under (capped least))) m (tt {0}) (image size (under (capped least))) ≡ asked (paged_checks (under least)) m (tt {0}) (image size (under least))
   same_stored m size = ⊎_elim
@@ -72,16 +84,6 @@ module _ (me : ℕ) (ds : List Dart) where
       (λ g. ap (λ (qs : List Check). asked qs m (tt {0}) (image size (under (capped least)))) same_checks
       ∙ refused_gives (paged_checks (under least)) m (tt {0}) (image size (under (capped least))) (full g) ∙ sym (refused_gives (paged_checks (under least)) m (tt {0}) (image size (under least)) (full g)))
       (lt_or_ge least number_bound)
-    where
-      three : (a b : Bool) → first_no ((5, a) ∷ (6, b) ∷ (7, false) ∷ []) ≢ 0
-      three false b e = let z : ◌≡◌ {A = ℕ} 5 0 = unfold first_no in e in omega (arith, z)
-      three true false e = let z : ◌≡◌ {A = ℕ} 6 0 = unfold first_no in e in omega (arith, z)
-      three true true e = let z : ◌≡◌ {A = ℕ} 7 0 = unfold first_no in e in omega (arith, z)
-
-      full : number_bound ≤ least → first_no (paged_checks (under least)) ≢ 0
-      full g e = three (links_right ds) (thirds_right ds)
-          (ap (λ (b : Bool). first_no ((5, links_right ds) ∷ (6, thirds_right ds) ∷ (7, b) ∷ [])) (sym (ap (λ (b : Bool). labels_right (under least) && b) (le-ltb least number_bound g) ∙ and_false (labels_right (under least))))
-          ∙ unfold paged_checks in e)
 
 -- QUESTIONS 1 AND 3
 some_pages : (o : Option Paged) → true ≡ is_some o → (w : Paged) × (o ≡ some w)
@@ -94,14 +96,14 @@ module _ (lim : Limits) (s m : List ℕ) where
   size_refused h = gives _ _ _ _ (ask_no refl (ne_eqb (length m) (words_of lim) h) refl)
 
   module _ (size : length m ≡ words_of lim) {x : List ℕ} {r : Bool} (k : RawRead lim s x r) where
-    pub layout_refused : not r ≡ true → Gives (read_pages lim s m) (refused 3) m
+    pub layout_refused : r ≡ false → Gives (read_pages lim s m) (refused 3) m
     unfolding read_pages storing
-    layout_refused e = gives _ _ _ _ (ask_yes (eq-eqb (length m) (words_of lim) size) (ask_no refl (sym k.answer ∙ not-true r e) refl))
+    layout_refused e = gives _ _ _ _ (ask_yes (eq-eqb (length m) (words_of lim) size) (ask_no refl (sym k.answer ∙ e) refl))
 
     -- pages were read
-    module _ (small : lim.block_darts ≤ room) (e : not r ≡ false) (bytes : Bytes s) where
+    module _ (small : lim.block_darts ≤ room) (e : r ≡ true) (bytes : Bytes s) where
       held : (w : Paged) × (whole (pages lim) s ≡ some w)
-      held = some_pages (whole (pages lim) s) (sym (not-false r e) ∙ k.answer)
+      held = some_pages (whole (pages lim) s) (sym e ∙ k.answer)
 
       w : Paged
       w = held.0

@@ -1,35 +1,33 @@
 -- Whole pages: what was found of their lines makes the whole, and the memory is filled with it; what is missing of any line leaves none.
 -- Assumes nothing.
 use mathlib.Core.Path.{◌≡◌, refl, sym, ◌∙◌, ap}
-use mathlib.Core.Bool.{Bool, true, false, not}
-use mathlib.Core.List.{List, [], ◌∷◌, ◌++◌, map, append-nil}
+use mathlib.Core.Bool.{true, false}
+use mathlib.Core.List.{List, [], ◌++◌, map, append-nil}
 use mathlib.Core.Option.{Option, none, some, none-ne-some, some-injective}
-use mathlib.Core.Logic.{◌≢◌, ◌⊎◌, inl, inr, ⊎_elim}
-use Prim.Native.Nat.{ℕ, suc, ◌+◌, ◌*◌, ◌-◌, ◌/◌, ◌%◌, ◌^◌, ◌≤◌, ◌<◌}
+use mathlib.Core.Logic.{◌⊎◌, ⊎_elim}
+use Prim.Native.Nat.{ℕ, suc, ◌+◌, ◌*◌, ◌/◌, ◌≤◌, ◌<◌}
 use native.Mathlib.Omega.{arith}
-use lib.Dec.{ltb, eqb}
-use lib.ListN.{length, get_or, drop, replicate, length-append}
+use lib.ListN.{length, get_or, drop, replicate}
 use borrow.Author.Tests.{lt-ltb, le-ltb}
-use Rattle.laws.specs.Order.{Ascending}
 use Rattle.laws.specs.Standing.{Stands}
 use Rattle.laws.proofs.Tests.{lt_or_ge}
 use Rattle.laws.proofs.Tables.{length_tab, getD_tab, map_tab, tab_all, tab_ascending, ascending_tab}
-use Rattle.laws.proofs.Standings.{stands_left, stands_both, stands_at, stands_is, stands_first, stands_whole, stands_pieces}
-use Rattle.model.specs.Lists.{all, ascending, concat, tab, is_some}
-use Rattle.model.specs.Values.{room, Limits, Block, Dart}
-use Rattle.model.specs.Image.{words_for, words_of}
+use Rattle.laws.proofs.Standings.{stands_both, stands_at, stands_is, stands_first, stands_whole, stands_pieces}
+use Rattle.model.specs.Lists.{all, ascending, concat, tab}
+use Rattle.model.specs.Values.{room, Limits, Dart}
+use Rattle.model.specs.Image.{words_of}
 use Rattle.model.specs.Layouts.{whole}
-use Rattle.model.specs.Pages.{Row, Paged, no_row, dart_of, number_column, blanks, line_feed, first_line, row_line, blank_line, line_of, page_count, page, pages_text, row_place, has_row, run, row_ok, paged_ok, pages}
+use Rattle.model.specs.Pages.{Row, Paged, no_row, dart_of, first_line, row_line, blank_line, line_of, page_count, page, pages_text, row_place, has_row, run, row_ok, paged_ok, pages}
 use Rattle.model.specs.Demands.{Bytes}
 use Rattle.theory.proofs.LayoutLaws.{whole_back, whole_only}
 use Rattle.theory.proofs.ImageLaws.{tab_list}
-use Rattle.theory.proofs.PageLaws.{PagedSmall, paged_small, PagedRight, paged_right, right_paged, pages_lawful, total_small, page_first, page_length, text_length, line_length, count_positive, count_covers, first_stands, row_stands, rows_counted, a_row, row_right}
+use Rattle.theory.proofs.PageLaws.{PagedSmall, paged_small, paged_right, right_paged, pages_lawful, total_small, page_first, page_length, text_length, line_length, count_positive, first_stands, row_stands, rows_counted, a_row, row_right}
 use Rattle.memory.specs.Header.{header_words}
 use Rattle.text.specs.Reading.{Column}
 use Rattle.text.proofs.Readings.{one_column}
 use Rattle.newblock.specs.Serials.{raw, stored_all}
 use Rattle.newblock.proofs.Stored.{stored_raw}
-use Rattle.readpages.specs.Raw.{FirstsStand, RestBlank, row_at, RowsAt, Filled, uncounted, RawRead}
+use Rattle.readpages.specs.Raw.{FirstsStand, RestBlank, row_at, RowsAt, uncounted, RawRead}
 use Rattle.readpages.proofs.PageTexts.{first_block}
 
 module _ (lim : Limits) (fits : lim.block_darts ≤ room) (s : List ℕ) (bytes : Bytes s) where

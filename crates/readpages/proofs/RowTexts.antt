@@ -1,21 +1,17 @@
 -- A dart's line in its columns: what stands in each, and the row that they make. Assumes nothing.
 use mathlib.Core.Path.{◌≡◌, refl, sym, ◌∙◌, ap}
 use mathlib.Core.Bool.{true}
-use mathlib.Core.List.{List, [], ◌∷◌, ◌++◌}
-use Prim.Native.Nat.{ℕ, ◌+◌, ◌*◌, ◌^◌, ◌≤◌, ◌<◌}
+use mathlib.Core.List.{List, ◌++◌}
+use Prim.Native.Nat.{ℕ, ◌+◌, ◌≤◌, ◌<◌}
 use native.Mathlib.Omega.{arith}
 use lib.ListN.{length, get_or, length-append}
-use lib.Dec.{leb, ltb}
 use borrow.Author.Tests.{le-leb, lt-ltb}
 use Rattle.laws.specs.Standing.{Stands}
 use Rattle.laws.proofs.Tests.{and_intro}
 use Rattle.laws.proofs.Standings.{stands_both, stands_at, stands_byte, byte_stands}
 use Rattle.model.specs.Values.{Third, serial_bound, no_point}
-use Rattle.model.specs.Image.{kind_word}
 use Rattle.model.specs.Pages.{Row, blanks, line_feed, number_column, third_column, row_line, row_ok, dart_of}
 use Rattle.memory.specs.Record.{record_words, put}
-use Rattle.memory.specs.declared.record.Record.{Record}
-use Rattle.codec.specs.Thirds.{named_by}
 use Rattle.theory.proofs.PageLaws.{RowSmall, row_small, column_length, third_length, serial_stands, next_stands, opposite_stands, gap_stands, third_stands, feed_stands}
 use Rattle.text.specs.Reading.{Column}
 use Rattle.text.proofs.Readings.{one_column}

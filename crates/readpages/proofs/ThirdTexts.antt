@@ -1,20 +1,18 @@
 -- Third links in their columns: the parts of each text, and that what stands there is one or none. Assumes nothing.
 use mathlib.Core.Path.{◌≡◌, refl, sym, ◌∙◌, ap}
-use mathlib.Core.Bool.{true, false, true≢false}
+use mathlib.Core.Bool.{true, false}
 use mathlib.Core.List.{List, [], ◌∷◌, ◌++◌, append_assoc}
-use mathlib.Core.Logic.{◌≢◌}
 use Prim.Native.Nat.{ℕ, suc, ◌+◌, ◌*◌, ◌-◌, ◌^◌, ◌≤◌, ◌<◌}
 use native.Mathlib.Omega.{arith}
-use lib.ListN.{length, get_or, replicate, length-append, length-replicate}
+use lib.ListN.{length, get_or, length-append, length-replicate}
 use borrow.Author.Tests.{lt-ltb, le-leb}
 use Rattle.laws.specs.Standing.{Stands}
 use Rattle.laws.proofs.Tests.{and_intro}
-use Rattle.laws.proofs.Standings.{stands_left, stands_right, stands_both, stands_at, stands_is, byte_stands}
+use Rattle.laws.proofs.Standings.{stands_left, stands_right, stands_both, stands_at, stands_is}
 use Rattle.model.specs.Values.{Label, Third, free, sewn, critical, code, serial_bound}
 use Rattle.model.specs.Text.{bytes, is_digit, decimal, third_text}
-use Rattle.model.specs.Layouts.{group, group_below, serial, ◌⊗◌, ◌⊕◌, as_type, such_that, at_most}
+use Rattle.model.specs.Layouts.{group, group_below, serial, ◌⊗◌, ◌⊕◌, as_type}
 use Rattle.model.specs.Messages.{label, critical_link, third_ok}
-use Rattle.model.specs.Image.{kind_word}
 use Rattle.model.specs.Pages.{blanks, third_column}
 use Rattle.theory.proofs.DemandTwo.{small_ok}
 use Rattle.theory.proofs.TextLaws.{decimal_most, decimal_ten}

@@ -1,5 +1,5 @@
 -- Whole pages: their first lines, the lines without a dart, the rows stored, and what is read. Assumes nothing.
-use Rattle.std.specs.Prelude.{◌≡◌, Bool, true, false, List, map, ℕ, zero, suc, ◌*◌, ◌≤◌, ◌<◌, drop}
+use Rattle.std.specs.Prelude.{◌≡◌, Bool, true, false, List, map, ℕ, suc, ◌*◌, ◌≤◌, ◌<◌, drop}
 use Rattle.std.proofs.Math.Option.{some}
 use Rattle.laws.specs.Order.{Ascending}
 use Rattle.laws.specs.Standing.{Stands}

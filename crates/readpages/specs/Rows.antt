@@ -1,5 +1,5 @@
 -- What is read of a dart's line: the row that stands there, or none; and the row stored. Assumes nothing.
-use Rattle.std.specs.Prelude.{◌≡◌, true, List, ℕ, ◌+◌, ◌^◌, ◌<◌}
+use Rattle.std.specs.Prelude.{◌≡◌, true, List, ℕ, ◌^◌, ◌<◌}
 use Rattle.laws.specs.Standing.{Stands}
 use Rattle.model.specs.Image.{kind_word}
 use Rattle.model.specs.Messages.{third_ok}

@@ -1,4 +1,6 @@
 // Reads a block from its pages into its memory. Pages have no points and no counter: the block's are zero and the least.
+#![tactic(auto)]
+
 ghost use Rattle.std.specs.Prelude.{◌≡◌, ℕ, ◌≤◌, length, get_or, replicate};
 ghost use Rattle.model.specs.Values.{room, rack};
 ghost use Rattle.model.specs.Image.{words_of};

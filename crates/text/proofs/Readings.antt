@@ -1,6 +1,6 @@
 -- Reading blanks, texts, digits and numbers at a place: what each loop has read, and that there is one number or none. Assumes nothing.
 use mathlib.Core.Path.{◌≡◌, refl, sym, ◌∙◌, ap}
-use mathlib.Core.Bool.{Bool, true, false, true≢false, not, ◌&&◌}
+use mathlib.Core.Bool.{Bool, true, false, true≢false, ◌&&◌}
 use mathlib.Core.List.{List, [], ◌∷◌, ◌++◌}
 use mathlib.Core.Logic.{◌≢◌, ⊎_elim, ◌↔◌}
 use Prim.Native.Nat.{ℕ, suc, ◌+◌, ◌*◌, ◌-◌, ◌^◌, ◌≤◌, ◌<◌}
@@ -9,7 +9,7 @@ use native.Mathlib.Omega.{arith}
 use lib.Dec.{leb, eqb}
 use lib.ListN.{length, get_or, take, drop, length-replicate, length-drop}
 use lib.Seq.{get_or-take, get_or-drop, length-take-le, take-suc, take-add}
-use borrow.Author.Tests.{eqb-true, eqb-false, eq-eqb, leb-true, ltb-true, lt-ltb, not-true, not-false}
+use borrow.Author.Tests.{eqb-true, eqb-false, eq-eqb, leb-true, ltb-true, lt-ltb}
 use Rattle.laws.specs.Standing.{Stands}
 use Rattle.laws.proofs.Tests.{by_cases, and_left, and_right, and_intro, all_at, lt_or_ge}
 use Rattle.laws.proofs.Standings.{stands_left, stands_right, stands_both, stands_at, stands_take, stands_one, stands_byte, byte_stands, stands_many, many_stand}
@@ -24,11 +24,11 @@ pub no_iff : {P : Type 0} → (P → ⊥) → (◌≡◌ {A = Bool} false true) 
 no_iff h = (λ e. absurd (true≢false (sym e)), λ p. absurd (h p))
 
 -- what a test told
-pub told_no : {P : Type 0} {r : Bool} → (r ≡ true) ↔ P → not r ≡ true → P → ⊥
-told_no {P} {r} w e p = true≢false (sym (w.1 p) ∙ not-true r e)
+pub told_no : {P : Type 0} {r : Bool} → (r ≡ true) ↔ P → r ≡ false → P → ⊥
+told_no w e p = true≢false (sym (w.1 p) ∙ e)
 
-pub told_yes : {P : Type 0} {r : Bool} → (r ≡ true) ↔ P → not r ≡ false → P
-told_yes {P} {r} w e = w.0 (not-false r e)
+pub told_yes : {P : Type 0} {r : Bool} → (r ≡ true) ↔ P → r ≡ true → P
+told_yes w e = w.0 e
 
 -- BLANKS
 pub record Blanking (s : List ℕ) (at : ℕ) (yes : Bool) (i : ℕ) : Type 0 where

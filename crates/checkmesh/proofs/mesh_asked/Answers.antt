@@ -16,23 +16,23 @@ returns-then-not-mesh_lent c =
 
 pub returns-then-not-all_sound : goal.returns-then-not-all_sound
 returns-then-not-all_sound c =
-    (image_no c.args.viewers c.args.mesh.now c.args.scratch.now (said_yes c.mesh_lent.ensures c.if-not-mesh_lent.false) c.All-sound.ensures c.if-not-all_sound.true, refl)
+    (image_no c.args.viewers c.args.mesh.now c.args.scratch.now (said_yes c.mesh_lent.ensures c.if-not-mesh_lent.false) c.all_sound.ensures c.if-not-all_sound.true, refl)
 
 pub returns-then-not-blocks_right : goal.returns-then-not-blocks_right
 returns-then-not-blocks_right c =
     let mesh = c.args.mesh.now in
     let scratch = c.args.scratch.now in
-    (numbers_no c.args.viewers mesh scratch (said_yes c.mesh_lent.ensures c.if-not-mesh_lent.false) (said_yes c.All-sound.ensures c.if-not-all_sound.false) c.blocks_right.ensures c.if-not-blocks_right.true, refl)
+    (numbers_no c.args.viewers mesh scratch (said_yes c.mesh_lent.ensures c.if-not-mesh_lent.false) (said_yes c.all_sound.ensures c.if-not-all_sound.false) c.blocks_right.ensures c.if-not-blocks_right.true, refl)
 
 pub serials_distinct-requires : goal.serials_distinct-requires
 serials_distinct-requires c =
-    (said_yes c.mesh_lent.ensures c.if-not-mesh_lent.false, parts_hold _ c.args.mesh.now (said_yes c.All-sound.ensures c.if-not-all_sound.false), said_yes c.blocks_right.ensures c.if-not-blocks_right.false)
+    (said_yes c.mesh_lent.ensures c.if-not-mesh_lent.false, parts_hold _ c.args.mesh.now (said_yes c.all_sound.ensures c.if-not-all_sound.false), said_yes c.blocks_right.ensures c.if-not-blocks_right.false)
 
 pub returns-then-not-serials_distinct : goal.returns-then-not-serials_distinct
 returns-then-not-serials_distinct c =
     let mesh = c.args.mesh.now in
     let scratch = c.args.scratch.now in (
-      serials_no c.args.viewers mesh scratch (said_yes c.mesh_lent.ensures c.if-not-mesh_lent.false) (said_yes c.All-sound.ensures c.if-not-all_sound.false)
+      serials_no c.args.viewers mesh scratch (said_yes c.mesh_lent.ensures c.if-not-mesh_lent.false) (said_yes c.all_sound.ensures c.if-not-all_sound.false)
           (said_yes c.blocks_right.ensures c.if-not-blocks_right.false) c.serials_distinct.ensures.0 c.if-not-serials_distinct.true,
       c.serials_distinct.ensures.1,
     )
@@ -42,7 +42,7 @@ paired-p-requires c =
     let mesh = c.args.mesh.now in (
       subst (λ (x : List ℕ). mesh_lent scratch_entries mesh x ≡ true) (sym c.serials_distinct.ensures.1)
           (said_yes c.mesh_lent.ensures c.if-not-mesh_lent.false),
-      record { images = parts_hold _ mesh (said_yes c.All-sound.ensures c.if-not-all_sound.false); numbered = said_yes c.blocks_right.ensures c.if-not-blocks_right.false },
+      record { images = parts_hold _ mesh (said_yes c.all_sound.ensures c.if-not-all_sound.false); numbered = said_yes c.blocks_right.ensures c.if-not-blocks_right.false },
     )
 
 pub returns-in-Unpaired : goal.returns-in-Unpaired
@@ -52,7 +52,7 @@ returns-in-Unpaired c =
       labels_no c.args.viewers mesh scratch
           (record {
             lent = said_yes c.mesh_lent.ensures c.if-not-mesh_lent.false;
-            images = said_yes c.All-sound.ensures c.if-not-all_sound.false;
+            images = said_yes c.all_sound.ensures c.if-not-all_sound.false;
             numbered = said_yes c.blocks_right.ensures c.if-not-blocks_right.false;
             serials = said_yes c.serials_distinct.ensures.0 c.if-not-serials_distinct.false;
           }) c.paired-p.ensures.0 c.in-Unpaired.is,
@@ -66,7 +66,7 @@ returns-in-Apart c =
       points_no c.args.viewers mesh scratch
           (record {
             lent = said_yes c.mesh_lent.ensures c.if-not-mesh_lent.false;
-            images = said_yes c.All-sound.ensures c.if-not-all_sound.false;
+            images = said_yes c.all_sound.ensures c.if-not-all_sound.false;
             numbered = said_yes c.blocks_right.ensures c.if-not-blocks_right.false;
             serials = said_yes c.serials_distinct.ensures.0 c.if-not-serials_distinct.false;
           }) c.paired-p.ensures.0 c.in-Apart.is,
@@ -75,18 +75,16 @@ returns-in-Apart c =
 
 pub makers_right-requires : goal.makers_right-requires
 makers_right-requires c =
-    let start : tie.Start = (search) in
-    parts_hold _ start.args.mesh.now (said_yes c.All-sound.ensures c.if-not-all_sound.false)
+    parts_hold _ c.args.mesh.now (said_yes c.all_sound.ensures c.if-not-all_sound.false)
 
 pub returns-then-not-makers_right : goal.returns-then-not-makers_right
 returns-then-not-makers_right c =
-    let start : tie.Start = (search) in
-    let mesh = start.args.mesh.now in
-    let scratch = start.args.scratch.now in (
-      makers_no start.args.viewers mesh scratch
+    let mesh = c.args.mesh.now in
+    let scratch = c.args.scratch.now in (
+      makers_no c.args.viewers mesh scratch
           (record {
             lent = said_yes c.mesh_lent.ensures c.if-not-mesh_lent.false;
-            images = said_yes c.All-sound.ensures c.if-not-all_sound.false;
+            images = said_yes c.all_sound.ensures c.if-not-all_sound.false;
             numbered = said_yes c.blocks_right.ensures c.if-not-blocks_right.false;
             serials = said_yes c.serials_distinct.ensures.0 c.if-not-serials_distinct.false;
           }) c.paired-p.ensures.0 c.in-Right.is c.makers_right.ensures c.if-not-makers_right.true,
@@ -95,13 +93,12 @@ returns-then-not-makers_right c =
 
 pub returns-in-Right : goal.returns-in-Right
 returns-in-Right c =
-    let start : tie.Start = (search) in
-    let mesh = start.args.mesh.now in
-    let scratch = start.args.scratch.now in (
-      all_yes start.args.viewers mesh scratch
+    let mesh = c.args.mesh.now in
+    let scratch = c.args.scratch.now in (
+      all_yes c.args.viewers mesh scratch
           (record {
             lent = said_yes c.mesh_lent.ensures c.if-not-mesh_lent.false;
-            images = said_yes c.All-sound.ensures c.if-not-all_sound.false;
+            images = said_yes c.all_sound.ensures c.if-not-all_sound.false;
             numbered = said_yes c.blocks_right.ensures c.if-not-blocks_right.false;
             serials = said_yes c.serials_distinct.ensures.0 c.if-not-serials_distinct.false;
           }) c.paired-p.ensures.0 c.in-Right.is c.makers_right.ensures c.if-not-makers_right.false,

@@ -25,7 +25,7 @@ returns-then-not-read_raw c =
 
 pub set_least-requires : goal.set_least-requires
 set_least-requires c =
-    let bytes = byte_list c.args.pages.now (λ i. (c.shared_slice_known-1.given i).fits) in
+    let bytes = byte_list c.args.pages.now (λ i. (c.type_inv.pages i).fits) in
     raw_fits (limits_of c.args.limits) c.args.pages.now c.args.block.now (c.if-block-words.false ∙ c.words.ensures) c.read_raw.ensures c.requires.block_le_room.0 c.if-not-read_raw.false bytes
 
 pub put_links-requires : goal.put_links-requires
@@ -33,7 +33,7 @@ put_links-requires c =
     let lim = limits_of c.args.limits in
     let block = c.args.block.now in
     let size = c.if-block-words.false ∙ c.words.ensures in
-    let bytes = byte_list c.args.pages.now (λ i. (c.shared_slice_known-1.given i).fits) in
+    let bytes = byte_list c.args.pages.now (λ i. (c.type_inv.pages i).fits) in
     let long = counted_long lim c.args.pages.now block size c.read_raw.ensures c.requires.block_le_room.0 c.if-not-read_raw.false bytes c.set_least.ensures in
     let ready = counted_ready lim c.args.pages.now block size c.read_raw.ensures c.requires.block_le_room.0 c.if-not-read_raw.false bytes c.set_least.ensures in
     let marks = c.requires.block_in_bounds in
@@ -42,5 +42,5 @@ put_links-requires c =
 
 pub returns : goal.returns
 returns c =
-    let bytes = byte_list c.args.pages.now (λ i. (c.shared_slice_known-1.given i).fits) in
+    let bytes = byte_list c.args.pages.now (λ i. (c.type_inv.pages i).fits) in
     block_put (limits_of c.args.limits) _ _ (c.if-block-words.false ∙ c.words.ensures) c.read_raw.ensures c.requires.block_le_room.0 c.if-not-read_raw.false bytes c.set_least.ensures c.put_links.ensures

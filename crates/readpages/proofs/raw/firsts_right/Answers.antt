@@ -1,4 +1,3 @@
-use Prim.Native.Nat.{◌-◌}
 use Rattle.text.proofs.Readings.{told_no, told_yes}
 use Rattle.readpages.proofs.PageTexts.{firsts_none, firsts_more, firsts_end, firsts_not}
 use native.Mathlib.Omega.{arith}

@@ -17,14 +17,14 @@ pub returns-then-total-s : goal.returns-then-total-s
 returns-then-total-s c =
     let lim = limits_of c.args.limits in
     let s = c.args.s.now in
-    let bytes = byte_list s (λ i. (c.shared_slice_known-1.given i).fits) in
+    let bytes = byte_list s (λ i. (c.type_inv.s i).fits) in
     other_size lim c.requires.0 s bytes refl c.if-total-s.true
 
 pub returns-then-total : goal.returns-then-total
 returns-then-total c =
     let lim = limits_of c.args.limits in
     let s = c.args.s.now in
-    let bytes = byte_list s (λ i. (c.shared_slice_known-1.given i).fits) in
+    let bytes = byte_list s (λ i. (c.type_inv.s i).fits) in
     other_count lim c.requires.0 s bytes refl (few_or_many _ c.if-total.true)
 
 pub read_column-requires : goal.read_column-requires
@@ -36,7 +36,7 @@ pub returns-in_default : goal.returns-in_default
 returns-in_default c =
     let lim = limits_of c.args.limits in
     let s = c.args.s.now in
-    let bytes = byte_list s (λ i. (c.shared_slice_known-1.given i).fits) in
+    let bytes = byte_list s (λ i. (c.type_inv.s i).fits) in
     no_number lim c.requires.0 s bytes refl (rw c.in_default.is at c.read_column.ensures)
 
 pub returns-then-number-ge-BLOCKS : goal.returns-then-number-ge-BLOCKS
@@ -44,7 +44,7 @@ returns-then-number-ge-BLOCKS c =
     let column = rw c.in-Value.is at c.read_column.ensures in
     let lim = limits_of c.args.limits in
     let s = c.args.s.now in
-    let bytes = byte_list s (λ i. (c.shared_slice_known-1.given i).fits) in
+    let bytes = byte_list s (λ i. (c.type_inv.s i).fits) in
     number_large lim c.requires.0 s bytes refl column c.if-number-ge-BLOCKS.true
 
 pub row_count-n-requires : goal.row_count-n-requires
@@ -57,7 +57,7 @@ returns-then-limits-n c =
     let column = rw c.in-Value.is at c.read_column.ensures in
     let lim = limits_of c.args.limits in
     let s = c.args.s.now in
-    let bytes = byte_list s (λ i. (c.shared_slice_known-1.given i).fits) in
+    let bytes = byte_list s (λ i. (c.type_inv.s i).fits) in
     too_many lim c.requires.0 s bytes refl column c.row_count-n.ensures c.if-limits-n.true
 
 pub fills-requires : goal.fills-requires
@@ -70,7 +70,7 @@ returns-then-not-fills c =
     let column = rw c.in-Value.is at c.read_column.ensures in
     let lim = limits_of c.args.limits in
     let s = c.args.s.now in
-    let bytes = byte_list s (λ i. (c.shared_slice_known-1.given i).fits) in
+    let bytes = byte_list s (λ i. (c.type_inv.s i).fits) in
     not_filled lim c.requires.0 s bytes refl column c.row_count-n.ensures (told_no c.fills.ensures c.if-not-fills.true)
 
 pub firsts_right-requires : goal.firsts_right-requires
@@ -83,7 +83,7 @@ returns-then-not-firsts_right c =
     let column = rw c.in-Value.is at c.read_column.ensures in
     let lim = limits_of c.args.limits in
     let s = c.args.s.now in
-    let bytes = byte_list s (λ i. (c.shared_slice_known-1.given i).fits) in
+    let bytes = byte_list s (λ i. (c.type_inv.s i).fits) in
     no_firsts lim c.requires.0 s bytes refl column c.row_count-n.ensures (told_no c.firsts_right.ensures c.if-not-firsts_right.true)
 
 pub rest_blank-requires : goal.rest_blank-requires
@@ -96,7 +96,7 @@ returns-then-not-rest_blank c =
     let column = rw c.in-Value.is at c.read_column.ensures in
     let lim = limits_of c.args.limits in
     let s = c.args.s.now in
-    let bytes = byte_list s (λ i. (c.shared_slice_known-1.given i).fits) in
+    let bytes = byte_list s (λ i. (c.type_inv.s i).fits) in
     no_rest lim c.requires.0 s bytes refl column c.row_count-n.ensures (told_no c.rest_blank.ensures c.if-not-rest_blank.true)
 
 pub store_rows-requires : goal.store_rows-requires
@@ -114,20 +114,20 @@ returns-then-not-store_rows c =
     let column = rw c.in-Value.is at c.read_column.ensures in
     let lim = limits_of c.args.limits in
     let s = c.args.s.now in
-    let bytes = byte_list s (λ i. (c.shared_slice_known-1.given i).fits) in
+    let bytes = byte_list s (λ i. (c.type_inv.s i).fits) in
     no_rows lim c.requires.0 s bytes refl column c.row_count-n.ensures (rw wrong at c.store_rows.ensures)
 
 pub write-requires : goal.write-requires
 write-requires c =
     let long = zeros_length (words_of (limits_of c.args.limits)) c.args.block.now c.requires.1 in
-    omega (arith, long, c.store_rows.kept.1.1.0)
+    omega (arith, long, c.store_rows.auto.block)
 
 pub returns : goal.returns
 returns c =
     let column = rw c.in-Value.is at c.read_column.ensures in
     let lim = limits_of c.args.limits in
     let s = c.args.s.now in
-    let bytes = byte_list s (λ i. (c.shared_slice_known-1.given i).fits) in
+    let bytes = byte_list s (λ i. (c.type_inv.s i).fits) in
     let stored = rw c.if-not-store_rows.false at c.store_rows.ensures in
     pages_read lim c.requires.0 s bytes refl column c.row_count-n.ensures
     c.if-total-s.false (omega (arith, c.if-number-ge-BLOCKS.false)) (omega (arith, c.if-limits-n.false)) (told_yes c.fills.ensures c.if-not-fills.false)

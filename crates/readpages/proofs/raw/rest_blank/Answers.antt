@@ -1,4 +1,3 @@
-use Prim.Native.Nat.{◌-◌}
 use Rattle.text.proofs.Readings.{told_no, told_yes}
 use Rattle.readpages.proofs.PageTexts.{row_within, rest_none, rest_more, rest_end, rest_not}
 use native.Mathlib.Omega.{arith}

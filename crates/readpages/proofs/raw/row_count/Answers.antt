@@ -1,5 +1,5 @@
 use mathlib.Core.Path.{sym, ◌∙◌, ap}
-use Prim.Native.Nat.{ℕ, ◌+◌, ◌-◌}
+use Prim.Native.Nat.{ℕ, ◌+◌}
 use lib.ListN.{get_or}
 use Rattle.readpages.proofs.PageTexts.{row_within, count_none, count_more, count_stops, count_ends}
 use native.Mathlib.Omega.{arith}

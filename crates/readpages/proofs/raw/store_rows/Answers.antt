@@ -1,4 +1,3 @@
-use Prim.Native.Nat.{◌-◌}
 use Rattle.readpages.proofs.Filling.{fill_none, fill_length, fill_more, fill_end, fill_fails}
 use native.Mathlib.Omega.{arith}
 use Rattle.readpages.proofs.raw.store_rows.Goals as goal
@@ -19,7 +18,7 @@ store_row-requires c = (
 
 pub shape_of-block-in_default : goal.shape_of-block-in_default
 shape_of-block-in_default c =
-    omega (arith, c.store_row.kept.1.1.1.0, fill_length c.loop-i.invariant (omega (arith, c.requires.2)))
+    omega (arith, c.store_row.auto.block, fill_length c.loop-i.invariant (omega (arith, c.requires.2)))
 
 pub returns-in_default : goal.returns-in_default
 returns-in_default c =
