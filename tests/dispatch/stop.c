@@ -92,9 +92,10 @@ int unlink(const char *path) {
     return full_now() ? -1 : REAL(unlink)(path);
 }
 
-time_t time(time_t *t) {
+int clock_gettime(clockid_t clock, struct timespec *t) {
     static time_t now;
-    time_t is = getenv("SHORT_WAIT") ? ++now : REAL(time)(NULL);
-    if (t) *t = is;
-    return is;
+    if (!getenv("SHORT_WAIT")) return REAL(clock_gettime)(clock, t);
+    t->tv_sec = ++now;
+    t->tv_nsec = 0;
+    return 0;
 }

@@ -10,7 +10,6 @@ use lib.ListN.{length}
 use borrow.Author.Tests.{eqb-true, eqb-false, eq-eqb, not-true, not-false}
 use Rattle.model.specs.Lists.{keep, mem}
 use Rattle.model.specs.Values.{Label}
-use Rattle.model.specs.Sound.{paired}
 use Rattle.model.specs.Runs.{Request}
 use Rattle.model.specs.UndividedRun.{State, nx, op, th, cell, inner_faces, after_move}
 use Rattle.laws.proofs.Members.{In, in_here, in_there}

@@ -22,8 +22,8 @@ use borrow.Author.Tests.{ltb-true}
 use Rattle.model.specs.Lists.{first_no, Check}
 use Rattle.model.specs.Values.{room, message_darts, Label, Block, Limits, rack, viewer, is_viewer, limits_in}
 use Rattle.model.specs.Sound.{Sound, Fit}
-use Rattle.model.specs.Image.{words_of, image, memory_of}
-use Rattle.model.specs.Runs.{Request, Outcome, finished, refused_by}
+use Rattle.model.specs.Image.{memory_of}
+use Rattle.model.specs.Runs.{Request, Outcome}
 use Rattle.model.specs.UndividedRun.{State, start, request_checks, round_checks, Undivided, undivided}
 use Rattle.model.specs.DividedRun.{last_steps, sent_messages, Round, round}
 use Rattle.model.specs.Demands.{Demand1, Demand2, Claim, Agree, Enough, AfterEvery, Named, Demand3, ended, RoundNumbers, too_large_there, SameNumbers}
@@ -32,7 +32,6 @@ use Rattle.theory.proofs.CallLaws.{demand1}
 use Rattle.theory.proofs.MessagesExact.{demand2}
 use Rattle.agreement.proofs.Begins.{start_label, described, start_inv}
 use Rattle.agreement.proofs.Described.{mesh_by, Inv}
-use Rattle.agreement.proofs.Finishes.{finishes}
 use Rattle.agreement.proofs.Keeps.{Kept, keeps}
 use Rattle.agreement.proofs.MeshSound.{says}
 use Rattle.agreement.proofs.Numbers.{numbers_alike}

@@ -10,7 +10,7 @@ use lib.ListN.{length}
 use borrow.Author.Tests.{eqb-true, eqb-false, eq-eqb, ne_eqb, not-true}
 use Rattle.model.specs.Lists.{any, keep, concat, more, collect, concat_map, zip, mem, distinct, find}
 use Rattle.model.specs.Values.{Label, Third, free, sewn, critical, Dart, Limits}
-use Rattle.model.specs.Cells.{cycle, vertex, start_of, vertices, vertex_number, serials, previous_in, labels, labelled}
+use Rattle.model.specs.Cells.{cycle, vertex, start_of, vertices, vertex_number, serials, previous_in, labelled}
 use Rattle.model.specs.Sound.{Fit}
 use Rattle.model.specs.Messages.{Part2, Part4, Transfer}
 use Rattle.model.specs.Departure.{part2_entry}

@@ -11,9 +11,9 @@ use lib.Dec.{eqb}
 use lib.ListN.{length, set, length-set, length-map}
 use lib.Seq.{get_or-set_same, get_or-set_other, ext_get_or}
 use borrow.Author.Tests.{eqb-true, eqb-false, eq-eqb, ne_eqb, not-true}
-use Rattle.model.specs.Lists.{any, keep, concat, tab, collect, concat_map, mem, distinct, ascending, first_no}
+use Rattle.model.specs.Lists.{keep, concat, tab, collect, concat_map, mem, distinct, ascending, first_no}
 use Rattle.model.specs.Values.{Label, Dart, Block, Limits, is_critical_with}
-use Rattle.model.specs.Cells.{cycle, start_of, third_at, labels}
+use Rattle.model.specs.Cells.{cycle, start_of, third_at}
 use Rattle.model.specs.Sound.{Fit}
 use Rattle.model.specs.Image.{words_of, image, memory_of}
 use Rattle.model.specs.Layouts.{framed}
@@ -35,7 +35,6 @@ use Rattle.agreement.proofs.Described.{third_by, block_by, mesh_by, Map, Inv, da
 use Rattle.agreement.proofs.Moved.{Served, moved_cell, state_after, labels_after}
 use Rattle.agreement.proofs.MovedCell.{Cell, faces_same}
 use Rattle.agreement.proofs.NewLabels.{facing_starts, facing_are}
-use Rattle.agreement.proofs.Rebuilt.{order}
 use Rattle.agreement.proofs.Redirected.{shared, chosen, told, redirected_is}
 use Rattle.agreement.proofs.Released.{released_is}
 use Rattle.agreement.proofs.Sent.{cell_faces, IsFace, all_faces, start_third, transfer_by, transfer_is}

@@ -1,7 +1,7 @@
 -- A round and an undivided request have the same outcome and keep the invariant. Assumes nothing.
 use mathlib.Core.Path.{◌≡◌, refl, sym, ◌∙◌, ap, subst}
 use mathlib.Core.Logic.{◌≢◌}
-use mathlib.Core.Bool.{Bool, true, false, not, ◌&&◌}
+use mathlib.Core.Bool.{true, false, not, ◌&&◌}
 use mathlib.Core.List.{List, [], ◌∷◌, map, Permᴰ}
 use Prim.Native.Nat.{ℕ, ◌+◌, ◌^◌, ◌<◌}
 use native.Mathlib.Omega.{arith}
@@ -18,7 +18,7 @@ use Rattle.model.specs.Messages.{Transfer, transfer, update, Message, a_transfer
 use Rattle.model.specs.Departure.{departure_checks, updates_of, messages}
 use Rattle.model.specs.Links.{pairs_once, vertex_pairs}
 use Rattle.model.specs.Arrival.{received, receive_checks, received_from}
-use Rattle.model.specs.Calls.{number_of, Result, storing, writing, send, receive, memories}
+use Rattle.model.specs.Calls.{number_of, Result, storing, writing, send, receive}
 use Rattle.model.specs.Runs.{Request, Outcome, is_refused, refused_by, finished, unfinished}
 use Rattle.model.specs.UndividedRun.{State, nx, op, th, cell, inner_faces, has_room, request_checks, round_checks, after_move, Undivided, undivided}
 use Rattle.model.specs.DividedRun.{Step, Done, written, called, memory_at, done, run_steps, messages_in, send_step, receive_step, last_steps, sent_messages, Round, round}
@@ -35,7 +35,6 @@ use Rattle.agreement.proofs.Finishes.{cut_again, finishes, memories_after}
 use Rattle.agreement.proofs.Moved.{Served, state_after, labels_after, inv_after}
 use Rattle.agreement.proofs.MovedCell.{questions_agree}
 use Rattle.agreement.proofs.Numbers.{first_six, last_two, round_split, refused_alike}
-use Rattle.agreement.proofs.Rebuilt.{order}
 use Rattle.agreement.proofs.Sent.{transfer_by}
 use Rattle.agreement.proofs.SentLayout.{transfer_read, receive_asks}
 

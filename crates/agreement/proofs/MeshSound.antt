@@ -14,7 +14,7 @@ use Rattle.model.specs.Lists.{all, keep, concat, tab, concat_map, mem, distinct,
 use Rattle.model.specs.Values.{Label, Third, Dart, Block, Limits, code, label_key, has_label, is_critical_with, or_no_dart, no_block}
 use Rattle.model.specs.Cells.{serials, third_at, previous_in, labelled}
 use Rattle.model.specs.Sound.{sound_block, block_at, all_darts, numbered_from, blocks_right, serials_distinct, share_label, paired, labels_paired, same_across, points_across, made_before, makers_right, Sound}
-use Rattle.model.specs.Image.{words_of, image, memory_of}
+use Rattle.model.specs.Image.{memory_of}
 use Rattle.model.specs.UndividedRun.{Whole, other_with, third_of, whole_map, holder, State, or_nothing, nx, th}
 use Rattle.model.specs.Demands.{Matches}
 use Rattle.laws.proofs.Members.{In, in_here, in_there, in_cons, in_append_left, in_append_right, append_in, distinct_append, keep_ascending, ascending_distinct, keep_map, map_append, two_kept}

@@ -10,7 +10,6 @@ use lib.ListN.{length}
 use borrow.Author.Tests.{eqb-true, eqb-false, eq-eqb}
 use Rattle.model.specs.Lists.{keep, mem}
 use Rattle.model.specs.Values.{Label, Limits}
-use Rattle.model.specs.Cells.{labelled}
 use Rattle.model.specs.Sound.{Fit}
 use Rattle.model.specs.Links.{pairs_once, vertex_pairs}
 use Rattle.model.specs.Runs.{Request}

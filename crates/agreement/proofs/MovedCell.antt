@@ -2,21 +2,21 @@
 use mathlib.Core.Path.{◌≡◌, refl, sym, ◌∙◌, ap, subst}
 use mathlib.Core.Logic.{◌≢◌}
 use mathlib.Core.Bool.{Bool, true, false, not, ◌&&◌}
-use mathlib.Core.List.{List, [], ◌∷◌, ◌++◌, map}
-use Prim.Native.Nat.{ℕ, zero, suc, ◌+◌, ◌^◌, ◌<◌, ◌≤◌}
+use mathlib.Core.List.{List, [], ◌∷◌, map}
+use Prim.Native.Nat.{ℕ, zero, suc, ◌<◌, ◌≤◌}
 use native.Mathlib.Omega.{arith}
 use native.Mathlib.Nat.{not-suc-le-zero}
-use lib.Dec.{leb, ltb, eqb}
+use lib.Dec.{leb, eqb}
 use lib.ListN.{length}
 use borrow.Author.Tests.{eqb-true, eq-eqb, ne_eqb, le-leb}
-use Rattle.model.specs.Lists.{all, keep, mem, ascending, Check, first_no}
+use Rattle.model.specs.Lists.{all, keep, mem, ascending, first_no}
 use Rattle.model.specs.Values.{Label, Dart, Limits}
 use Rattle.model.specs.Cells.{around, cycle, volume, vertex, faces, start_of, serials, next_in, opposite_in, third_at, volume_in, faces_in}
 use Rattle.model.specs.Sound.{Fit}
 use Rattle.model.specs.Departure.{is_sewn_into, is_sewn_out_of, sewn_faces, departure_checks}
-use Rattle.model.specs.Links.{pairs_once, vertex_pairs}
+use Rattle.model.specs.Links.{vertex_pairs}
 use Rattle.model.specs.Runs.{Request}
-use Rattle.model.specs.UndividedRun.{State, nx, op, th, cell, inner_faces, request_checks}
+use Rattle.model.specs.UndividedRun.{State, nx, op, th, cell, inner_faces}
 use Rattle.laws.proofs.Carry.{volume_cong, volume_twice, faces_cong, vertex_cong}
 use Rattle.laws.proofs.Members.{In, in_here, in_there, in_keep, keep_le, all_cong, keep_in, keep_ascending, Each, map_cong}
 use Rattle.laws.proofs.Orbits.{iter, around_path, Cyc}

@@ -2,20 +2,20 @@
 -- may send more darts than the destination may take. Assumes nothing.
 use mathlib.Core.Path.{◌≡◌, refl, sym, ◌∙◌, ap}
 use mathlib.Core.Logic.{◌≢◌}
-use mathlib.Core.Bool.{Bool, true, false, true≢false, not, ◌&&◌}
+use mathlib.Core.Bool.{Bool, true, false, true≢false}
 use mathlib.Core.List.{List, [], ◌∷◌, ◌++◌}
-use Prim.Native.Nat.{ℕ, min, ◌<◌, ◌≤◌}
+use Prim.Native.Nat.{ℕ, ◌<◌, ◌≤◌}
 use native.Mathlib.Omega.{arith}
 use lib.Dec.{leb, ltb, eqb}
 use lib.ListN.{length}
-use borrow.Author.Tests.{eqb-true, eqb-false, leb-true, ltb-true, le-leb, lt-leb, lt-ltb, leb-false}
-use Rattle.model.specs.Lists.{all, mem, first_no, Check}
+use borrow.Author.Tests.{eqb-true, eqb-false, leb-true, le-leb, lt-leb, lt-ltb, leb-false}
+use Rattle.model.specs.Lists.{all, first_no, Check}
 use Rattle.model.specs.Values.{Limits}
 use Rattle.model.specs.Sound.{volume_limit}
 use Rattle.model.specs.Runs.{Request}
 use Rattle.model.specs.UndividedRun.{State, cell, leaving_checks, has_room, request_checks, round_checks}
 use Rattle.model.specs.Demands.{too_large_there}
-use Rattle.laws.proofs.Tests.{by_cases, and_intro, and_left, and_right, yes_then, no_here, first_no_append, first_no_stays}
+use Rattle.laws.proofs.Tests.{by_cases, and_intro, yes_then, no_here, first_no_append, first_no_stays}
 
 -- a yes among questions is passed over
 yes_among : (ps : List Check) (n : ℕ) (a : Bool) (qs : List Check) → a ≡ true → first_no (ps ++ (n, a) ∷ qs) ≡ first_no (ps ++ qs)

@@ -9,10 +9,9 @@ use lib.ListN.{length, get_or}
 use borrow.Author.Tests.{eqb-true, eq-eqb}
 use Rattle.model.specs.Lists.{any, keep, concat, concat_map, zip, firsts, index_of}
 use Rattle.model.specs.Values.{Point, free, Dart, no_point}
-use Rattle.model.specs.Cells.{around, cycle, vertex, faces}
+use Rattle.model.specs.Cells.{around, cycle, faces}
 use Rattle.model.specs.Messages.{FaceDart, Transfer}
 use Rattle.model.specs.Arrival.{Side, sides_of, sides, reverses, first_serial, opposite_of, new_dart, new_darts}
-use Rattle.model.specs.UndividedRun.{nx, op}
 use Rattle.laws.proofs.Faces.{order_has, order_only}
 use Rattle.laws.proofs.Members.{In, in_here, in_there, any_in, keep_in, map_append, map_map, map_cong, in_map, firsts_have}
 use Rattle.laws.proofs.Orbits.{iter, path, around_path}

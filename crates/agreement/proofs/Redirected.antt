@@ -11,7 +11,7 @@ use lib.ListN.{length}
 use borrow.Author.Tests.{eqb-true, eqb-false, eq-eqb, ne_eqb, not-true}
 use Rattle.model.specs.Lists.{keep, concat_map, mem, distinct, least, find}
 use Rattle.model.specs.Values.{Label, Third, critical, Dart, Limits, code, is_critical_with, with_other}
-use Rattle.model.specs.Cells.{around, cycle, start_of, next_in, third_at, labels, labels_along, least_label, labelled}
+use Rattle.model.specs.Cells.{around, cycle, start_of, next_in, third_at, labels_along, least_label, labelled}
 use Rattle.model.specs.Sound.{Fit}
 use Rattle.model.specs.Messages.{Update}
 use Rattle.model.specs.Departure.{least_labels}
@@ -21,13 +21,13 @@ use Rattle.model.specs.Runs.{Request}
 use Rattle.model.specs.UndividedRun.{State, nx, op, th, cell}
 use Rattle.laws.proofs.Carry.{around_cong}
 use Rattle.laws.proofs.Faces.{face, face_stays, face_self, face_trans, face_sym, is_start, start_unique, along_face, face_distinct}
-use Rattle.laws.proofs.Members.{In, in_here, in_there, in_cons, in_eq, least_in, least_below, each_append, keep_map, map_map, map_cong, in_map, map_in, one_kept, least_among}
+use Rattle.laws.proofs.Members.{In, in_here, in_there, in_cons, in_eq, least_below, each_append, keep_map, map_map, map_cong, in_map, map_in, one_kept, least_among}
 use Rattle.laws.proofs.Orbits.{in_cycle}
 use Rattle.laws.proofs.Tests.{by_cases, and_intro, and_left, and_right}
 use Rattle.agreement.proofs.BlockSound.{code_one}
 use Rattle.agreement.proofs.Described.{pt, third_by, dart_by, members, block_by, Crossing, Map, Inv, Mine, mine_member, member_mine, darts_by, next_at, third_is, kind_free, kind_sewn, kind_critical, by_kind, next_mine, third_level, third_back_linked}
 use Rattle.agreement.proofs.Links.{Gives, relink_gives, find_append}
-use Rattle.agreement.proofs.MeshSound.{labelled_by, says}
+use Rattle.agreement.proofs.MeshSound.{labelled_by}
 use Rattle.agreement.proofs.Moved.{Served, moved_cell, state_after, labels_after}
 use Rattle.agreement.proofs.MovedCell.{Cell}
 use Rattle.agreement.proofs.NewLabels.{Facing, next_one_cell, facing_next, Tells, facing_starts, start_there, starts_distinct, start_facing}

@@ -8,7 +8,7 @@ use Prim.Native.Nat.{ℕ}
 use lib.Dec.{leb, eqb}
 use Rattle.model.specs.Lists.{all, keep, concat, collect, firsts}
 use Rattle.model.specs.Values.{Label, Third, free, sewn, critical, Dart, Limits}
-use Rattle.model.specs.Cells.{around, cycle, vertex, faces, start_of, vertices, vertex_number, dart_at, next_in, opposite_in, third_at, labels, labels_along}
+use Rattle.model.specs.Cells.{around, cycle, vertex, faces, start_of, vertices, vertex_number, dart_at, next_in, opposite_in, third_at, labels_along}
 use Rattle.model.specs.Sound.{Fit}
 use Rattle.model.specs.Messages.{Part4, Transfer}
 use Rattle.model.specs.Departure.{is_sewn_out_of, part2_entry, part3_from, part4_entry, transfer_of}

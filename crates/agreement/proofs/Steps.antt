@@ -13,7 +13,6 @@ use Rattle.model.specs.Values.{Limits}
 use Rattle.model.specs.DividedRun.{Step, Done, called, memory_at, done, run_steps}
 use Rattle.laws.proofs.Members.{in_here, in_eq, Each, each_weaken}
 use Rattle.laws.proofs.Tests.{by_cases, and_intro, and_left, and_right}
-use Rattle.agreement.proofs.AfterMove.{after}
 use Rattle.agreement.proofs.Arrived.{es}
 
 -- STEPS ON DIFFERENT BLOCKS

@@ -1,4 +1,6 @@
 // Answers of the public calls. A refusal names the question whose answer is no; the numbers are those of the questions at the door.
+#![tactic(auto)]
+
 ghost use Rattle.std.specs.Prelude.{◌≡◌, get_or};
 ghost use Rattle.model.specs.Calls.{number_of, values_of, written_values, move_values};
 ghost use Rattle.answers.specs.Answers.{question, answer-of, written_of, move-of};

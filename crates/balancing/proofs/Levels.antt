@@ -4,13 +4,12 @@ use mathlib.Core.Bool.{Bool, true, false, cond, not}
 use mathlib.Core.List.{List, [], ◌∷◌}
 use Prim.Native.Nat.{ℕ, ◌+◌, ◌≤◌, ◌<◌}
 use native.Mathlib.Omega.{arith}
-use lib.Dec.{leb}
 use lib.ListN.{length, get_or, length-map}
 use borrow.Author.Tests.{leb-false, not-true}
 use Rattle.model.specs.Lists.{all, keep}
 use Rattle.model.specs.Values.{Block, Limits, limits_in}
 use Rattle.model.specs.Sound.{Fit}
-use Rattle.model.specs.Balance.{Oracle, picked, counts, Move, NextMove, level, blocked, move, may_give, candidates, can_move, first_or, is_level, next_of}
+use Rattle.model.specs.Balance.{Oracle, picked, counts, Move, level, blocked, may_give, candidates, can_move, first_or, is_level, next_of}
 use Rattle.model.specs.Demands.{LevelMeans}
 use Rattle.laws.proofs.Tests.{all_at}
 use Rattle.agreement.proofs.Agreement.{limits_fit}

@@ -20,7 +20,6 @@ use Rattle.model.specs.Departure.{departure_checks}
 use Rattle.model.specs.Balance.{Oracle, picked, counts, squared_counts, Move, move, can_move, next_of}
 use Rattle.model.specs.Runs.{finished}
 use Rattle.model.specs.UndividedRun.{State, start, cell, inner_faces, has_room, Undivided, undivided, round_checks}
-use Rattle.model.specs.DividedRun.{round}
 use Rattle.model.specs.Demands.{request_of, Answers, CarriedOut, MoveLowers}
 use Rattle.laws.proofs.Members.{In, keep_in}
 use Rattle.laws.proofs.Tables.{length_tab, getD_tab}

@@ -3,13 +3,13 @@
 use mathlib.Core.Path.{◌≡◌, refl, sym, ◌∙◌, ap, subst}
 use mathlib.Core.Logic.{⊎_elim}
 use mathlib.Core.Bool.{Bool, true, false}
-use mathlib.Core.List.{List, [], ◌∷◌, ◌++◌, map}
+use mathlib.Core.List.{List, ◌++◌, map}
 use Prim.Native.Nat.{ℕ, zero, suc, ◌+◌, ◌*◌, ◌/◌, ◌≤◌, ◌<◌}
 use native.Mathlib.Omega.{arith}
 use lib.Dec.{leb}
 use lib.ListN.{length, get_or, length-append, length-map}
 use borrow.Author.Tests.{leb-true}
-use Rattle.model.specs.Lists.{all, keep, tab, mem, distinct}
+use Rattle.model.specs.Lists.{all, keep, mem, distinct}
 use Rattle.model.specs.Values.{Label, Dart, Block, Limits, limits_in}
 use Rattle.model.specs.Cells.{dart_at, volume_in, volume_starts}
 use Rattle.model.specs.Sound.{Sound, Fit}
@@ -22,7 +22,7 @@ use Rattle.agreement.proofs.Agreement.{limits_fit}
 use Rattle.agreement.proofs.Begins.{start_label, described, start_inv}
 use Rattle.agreement.proofs.Described.{members, block_by, mesh_by, Map, Inv, Mine, mine_member, member_mine, darts_by, serials_are, opposite_mine}
 use Rattle.agreement.proofs.MovedCell.{cell_is, volume_same}
-use Rattle.balancing.proofs.Chosen.{next_answered, Candidate, chosen}
+use Rattle.balancing.proofs.Chosen.{next_answered, chosen}
 use Rattle.balancing.proofs.Lowers.{move_gives}
 use Rattle.balancing.proofs.Sums.{gaps, gaps_fall, gaps_two, gaps_few}
 

@@ -3,7 +3,7 @@
 use mathlib.Core.Path.{◌≡◌, refl, sym, ◌∙◌, ap}
 use mathlib.Core.Logic.{◌≢◌}
 use mathlib.Core.Bool.{Bool, true, false, true≢false, cond, ◌&&◌, ◌||◌}
-use mathlib.Core.List.{List, [], ◌∷◌, map}
+use mathlib.Core.List.{List, map}
 use Prim.Native.Nat.{ℕ, suc, ◌<◌, ◌≤◌}
 use native.Mathlib.Omega.{arith}
 use lib.Dec.{leb, eqb}
@@ -15,7 +15,7 @@ use Rattle.model.specs.Cells.{dart_at, volume_in, volume_starts}
 use Rattle.model.specs.Sound.{Fit}
 use Rattle.model.specs.Balance.{Oracle, picks, picked, counts}
 use Rattle.model.specs.UndividedRun.{State, nx, op, cell}
-use Rattle.laws.proofs.Members.{In, in_here, in_there, all_in, keep_in, map_cong, one_kept, ascending_distinct, keep_twice, keep_cong}
+use Rattle.laws.proofs.Members.{In, all_in, keep_in, map_cong, one_kept, ascending_distinct, keep_twice, keep_cong}
 use Rattle.laws.proofs.Tables.{map_tab, tab_cong}
 use Rattle.laws.proofs.Tests.{by_cases, and_intro, and_left, and_right}
 use Rattle.agreement.proofs.AfterMove.{keep_either, after}

@@ -6,7 +6,7 @@ use Prim.Native.Nat.{ℕ, ◌≤◌, ◌<◌}
 use native.Mathlib.Omega.{arith}
 use lib.ListN.{length}
 use Rattle.model.specs.Lists.{distinct}
-use Rattle.model.specs.Values.{widest, finite, room}
+use Rattle.model.specs.Values.{widest, room}
 use Rattle.model.specs.Image.{words_for, column, dart_in, block_in, holds_block}
 use Rattle.laws.proofs.Tests.{and_intro, and_left, and_right}
 use Rattle.laws.proofs.Tables.{length_tab}

@@ -1,12 +1,12 @@
 -- Question 6, third links, by columns. Assumes nothing.
 use mathlib.Core.Path.{◌≡◌, refl, sym, ap, ◌∙◌}
-use mathlib.Core.Bool.{true, false, false≢true, not, ◌&&◌}
+use mathlib.Core.Bool.{true, false≢true, not, ◌&&◌}
 use mathlib.Core.List.{List}
 use Prim.Native.Nat.{ℕ, ◌/◌, ◌<◌}
 use native.Mathlib.Omega.{arith}
 use lib.Dec.{ltb, eqb}
 use borrow.Author.Tests.{eq-eqb, ne_eqb, eqb-true, eqb-false, lt-ltb, ltb-true, not-true}
-use Rattle.model.specs.Values.{Third, sewn, Dart, is_free, is_sewn_to, is_critical_with}
+use Rattle.model.specs.Values.{Third, Dart, is_free, is_sewn_to, is_critical_with}
 use Rattle.model.specs.Cells.{held, next_in, third_at}
 use Rattle.model.specs.Sound.{sewn_along, third_right, thirds_right}
 use Rattle.model.specs.Image.{column, is_sewn_word, is_critical_word, third_in, dart_in}

@@ -4,7 +4,7 @@
 --   Ranged           question 3 of memory, and zeros where nothing is stored
 --   link_test, third_test, label_test, point_test    questions 5, 6, 7 and 8 of one dart; 4 is the model's `finite`
 --   dart_test, far_test    all that question 2 asks of one dart: by itself, and with the darts that it links to
-use Rattle.std.specs.Prelude.{◌≡◌, Bool, true, cond, not, ◌&&◌, ◌||◌, List, [], ◌∷◌, ◌++◌, ℕ, zero, suc, ◌+◌, ◌*◌, ◌/◌, ◌%◌, ◌≤◌, ◌<◌, ◌^◌, leb, ltb, eqb, get_or}
+use Rattle.std.specs.Prelude.{◌≡◌, Bool, true, cond, not, ◌&&◌, ◌||◌, List, [], ◌∷◌, ◌++◌, ℕ, zero, suc, ◌+◌, ◌*◌, ◌≤◌, ◌<◌, ◌^◌, leb, ltb, eqb, get_or}
 use Rattle.model.specs.Values.{same_point, finite, room, blocks}
 use Rattle.model.specs.Image.{column, dart_in, label_in, is_sewn_word, is_critical_word, other_in}
 

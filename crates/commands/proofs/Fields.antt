@@ -1,23 +1,19 @@
 -- The fields of a line. Assumes nothing.
-use mathlib.Core.Path.{◌≡◌, refl, sym, ap, subst, ◌∙◌}
+use mathlib.Core.Path.{◌≡◌, sym, ap, subst, ◌∙◌}
 use mathlib.Core.Bool.{Bool, true, false, cond}
-use mathlib.Core.List.{List, [], ◌∷◌}
-use Prim.Native.Nat.{ℕ, ◌+◌, ◌-◌, ◌<◌, ◌≤◌}
+use mathlib.Core.List.{List}
+use Prim.Native.Nat.{ℕ, ◌+◌, ◌-◌, ◌≤◌}
 use native.Mathlib.Omega.{arith}
 use lib.Dec.{eqb}
 use lib.ListN.{length, drop, take}
-use lib.Seq.{take_all}
 use borrow.Author.Tests.{eq-eqb}
 use Rattle.laws.proofs.Lists.{drop_end, rest_whole}
 use Rattle.commands.specs.declared.words.Number.{Number}
-use Rattle.commands.specs.declared.words.Number.TheVariants as number
 use Rattle.commands.specs.declared.words.Kind.TheVariants as kind
-use Rattle.commands.specs.declared.lines.Field.{Field}
 use Rattle.commands.specs.declared.lines.Field.TheVariants as field
-use Rattle.commands.specs.declared.lines.Line.{Line}
 use Rattle.commands.specs.declared.lines.Line.TheVariants as line
 use Rattle.commands.specs.Words.{number_in, belongs, leading}
-use Rattle.commands.specs.Lines.{rest_blank, valued, word_at, field_from, field_in, then_line, line_in}
+use Rattle.commands.specs.Lines.{rest_blank, valued, word_at, field_from, field_in, line_in}
 
 -- past the end there are no bytes
 pub leading_past : (p : ℕ → Bool) (s : List ℕ) (at : ℕ) → length s ≤ at → leading p (drop at s) ≡ 0

@@ -1,5 +1,5 @@
 -- Numbers and words of a text. Assumes nothing.
-use Rattle.std.specs.Prelude.{Bool, true, false, cond, not, ◌&&◌, ◌||◌, List, [], ◌∷◌, ℕ, zero, suc, ◌+◌, ◌*◌, ◌-◌, ◌^◌, ltb, eqb}
+use Rattle.std.specs.Prelude.{Bool, cond, not, ◌&&◌, ◌||◌, List, [], ◌∷◌, ℕ, suc, ◌+◌, ◌*◌, ◌-◌, ◌^◌, ltb, eqb}
 use Rattle.model.specs.Text.{is_digit}
 use Rattle.commands.specs.declared.words.Number.{Number}
 use Rattle.commands.specs.declared.words.Number.TheVariants as number

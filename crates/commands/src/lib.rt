@@ -1,4 +1,6 @@
 // What the dispatcher's program decides without a file: the words of a command, the lines of requests, the names of files.
+#![tactic(auto)]
+
 pub mod words; // words.rt: numbers and words of a text
 pub mod lines; // lines.rt: requests, one a line
 pub mod command; // command.rt: commands, oracles and options by their words

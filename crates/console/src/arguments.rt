@@ -7,12 +7,44 @@ use commands::{command, words};
 use decimal::Decimal;
 use memory::point::Point;
 use oracle::Oracle;
+use std::env::{Env, FillError};
 use system::say;
 
+// Argument i at the start of the room; how many bytes, 0 where it is missing or longer than the room.
+fn argument(rt: HostRuntime, i: usize, room: &mut [u8]) -> usize
+    ensures { IsPrefixLen result room.new }
+{
+    match rt.arg(i, room) {
+        Ok(n) => n,
+        Err(_) => 0,
+    }
+}
+
+// Whether there is an argument i.
+fn is_given(rt: HostRuntime, i: usize) -> bool {
+    let mut room = [0u8; 1];
+    match rt.arg(i, &mut room) {
+        Ok(_) => true,
+        Err(FillError::TooLong) => true,
+        Err(FillError::NotPresent) => false,
+    }
+}
+
+// How many arguments there are.
+fn argument_count(rt: HostRuntime) -> usize {
+    // Those before n are given.
+    for n in 0..usize::MAX {
+        if !is_given(rt, n) {
+            return n;
+        }
+    }
+    usize::MAX
+}
+
 // How many words stand before the command's own: two, where the first asks for the status on a descriptor, as `--status 3`.
-fn in_front() -> usize {
+fn in_front(rt: HostRuntime) -> usize {
     let mut word = [0u8; 16];
-    let n = os::arg(1, &mut word);
+    let n = argument(rt, 1, &mut word);
     if words::same(&word[..n], b"--status") {
         return 2;
     }
@@ -20,12 +52,12 @@ fn in_front() -> usize {
 }
 
 // The descriptor that the status goes to, 3 to 9; none is -1.
-pub fn status_descriptor() -> i32 {
-    if in_front() == 0 {
+pub fn status_descriptor(rt: HostRuntime) -> i32 {
+    if in_front(rt) == 0 {
         return -1;
     }
     let mut word = [0u8; 1];
-    let n = os::arg(2, &mut word);
+    let n = argument(rt, 2, &mut word);
     if n != 1 {
         return -1;
     }
@@ -50,33 +82,33 @@ fn is_option(text: &[u8]) -> bool {
 }
 
 // Whether argument i is an option.
-fn is_option_at(i: usize) -> bool {
+fn is_option_at(rt: HostRuntime, i: usize) -> bool {
     let mut text = [0u8; 256];
-    let n = os::arg(i, &mut text);
+    let n = argument(rt, i, &mut text);
     is_option(&text[..n])
 }
 
 // How many words there are, the program's name among them, options left out.
-pub fn count() -> usize {
-    let all = os::arg_count();
+pub fn count(rt: HostRuntime) -> usize {
+    let all = argument_count(rt);
     // Of the arguments before i that do not stand in front, n are words.
     let mut n: usize = 0;
-    let mut i = in_front();
+    let mut i = in_front(rt);
     while i < all {
-        n = std::num::wrapping_add_usize(n, !is_option_at(i) as usize);
+        n = std::num::wrapping_add_usize(n, !is_option_at(rt, i) as usize);
         i += 1;
     }
     n
 }
 
 // Which argument word i is, options left out; there is none past the end.
-fn argument_of(i: usize) -> usize {
-    let all = os::arg_count();
+fn argument_of(rt: HostRuntime, i: usize) -> usize {
+    let all = argument_count(rt);
     // So many words are still to be passed over.
     let mut left = i;
-    let mut at = in_front();
+    let mut at = in_front(rt);
     while at < all {
-        if is_option_at(at) {
+        if is_option_at(rt, at) {
             at += 1;
             continue;
         }
@@ -90,10 +122,10 @@ fn argument_of(i: usize) -> usize {
 }
 
 // Word i at the start of the room; how many bytes.
-pub fn word(i: usize, room: &mut [u8]) -> usize
+pub fn word(rt: HostRuntime, i: usize, room: &mut [u8]) -> usize
     ensures { IsPrefixLen result room.new }
 {
-    os::arg(argument_of(i), room)
+    argument(rt, argument_of(rt, i), room)
 }
 
 // What the options ask for: that nothing is saved; that nothing is saved unless every request is served.
@@ -111,9 +143,9 @@ pub enum Given {
 }
 
 // The same with argument i.
-fn with_option(o: Options, i: usize) -> Given {
+fn with_option(rt: HostRuntime, o: Options, i: usize) -> Given {
     let mut text = [0u8; 256];
-    let n = os::arg(i, &mut text);
+    let n = argument(rt, i, &mut text);
     if !is_option(&text[..n]) {
         return Given::Options(o);
     }
@@ -136,16 +168,16 @@ fn with_option(o: Options, i: usize) -> Given {
 }
 
 // The options among the words.
-pub fn options_given() -> Given {
-    let all = os::arg_count();
+pub fn options_given(rt: HostRuntime) -> Given {
+    let all = argument_count(rt);
     // Those before argument i are taken.
     let mut taken = Options {
         dry: false,
         whole: false,
     };
-    let mut i = in_front();
+    let mut i = in_front(rt);
     while i < all {
-        match with_option(taken, i) {
+        match with_option(rt, taken, i) {
             Given::Options(o) => {
                 taken = o;
             }
@@ -159,9 +191,9 @@ pub fn options_given() -> Given {
 }
 
 // The block or the number of blocks that a word gives.
-pub fn number_at(i: usize) -> Number {
+pub fn number_at(rt: HostRuntime, i: usize) -> Number {
     let mut text = [0u8; 64];
-    let n = word(i, &mut text);
+    let n = word(rt, i, &mut text);
     words::number_in(&text[..n])
 }
 
@@ -175,9 +207,9 @@ fn no_coordinate(text: &[u8]) {
 }
 
 // A word as a coordinate; one that is none is told.
-fn coordinate_at(i: usize) -> Decimal {
+fn coordinate_at(rt: HostRuntime, i: usize) -> Decimal {
     let mut text = [0u8; 256];
-    let n = word(i, &mut text);
+    let n = word(rt, i, &mut text);
     let read = decimal::decimal_in(&text[..n]);
     if let Decimal::Not = read {
         no_coordinate(&text[..n]);
@@ -192,14 +224,14 @@ enum Corner {
     Not,
 }
 
-fn corner_at(i: usize, j: usize, k: usize) -> Corner {
-    let Decimal::Is(x) = coordinate_at(i) else {
+fn corner_at(rt: HostRuntime, i: usize, j: usize, k: usize) -> Corner {
+    let Decimal::Is(x) = coordinate_at(rt, i) else {
         return Corner::Not;
     };
-    let Decimal::Is(y) = coordinate_at(j) else {
+    let Decimal::Is(y) = coordinate_at(rt, j) else {
         return Corner::Not;
     };
-    let Decimal::Is(z) = coordinate_at(k) else {
+    let Decimal::Is(z) = coordinate_at(rt, k) else {
         return Corner::Not;
     };
     Corner::At(Point { x, y, z })
@@ -214,22 +246,22 @@ pub enum Named {
 }
 
 // The box of words 3 to 8.
-pub fn box_of() -> Named {
-    let Corner::At(low) = corner_at(3, 4, 5) else {
+pub fn box_of(rt: HostRuntime) -> Named {
+    let Corner::At(low) = corner_at(rt, 3, 4, 5) else {
         return Named::Told;
     };
-    let Corner::At(high) = corner_at(6, 7, 8) else {
+    let Corner::At(high) = corner_at(rt, 6, 7, 8) else {
         return Named::Told;
     };
     Named::Oracle(Oracle::Box(low, high))
 }
 
 // The plane of words 3 and 4.
-pub fn plane_of() -> Named {
-    let Number::Is(axis) = number_at(3) else {
+pub fn plane_of(rt: HostRuntime) -> Named {
+    let Number::Is(axis) = number_at(rt, 3) else {
         return Named::Not;
     };
-    let Decimal::Is(at) = coordinate_at(4) else {
+    let Decimal::Is(at) = coordinate_at(rt, 4) else {
         return Named::Told;
     };
     Named::Oracle(Oracle::Plane(axis, at))

@@ -74,11 +74,11 @@ fn check_blocks(mesh: &[u64], viewers: u32, scratch: &mut [u64]) -> Status {
     Status::Refused
 }
 
-fn check(mesh: &mut [u64], scratch: &mut [u64], room: &mut [u8]) -> Status {
-    let Viewers::Bits(viewers) = reading::viewers() else {
+fn check(rt: HostRuntime, mesh: &mut [u64], scratch: &mut [u64], room: &mut [u8]) -> Status {
+    let Viewers::Bits(viewers) = reading::viewers(rt) else {
         return Status::Error;
     };
-    match reading::look(mesh, room) {
+    match reading::look(rt, mesh, room) {
         Basin::Blocks(k) => {
             if k <= mesh.len() / Header::WORDS {
                 let end = k * Header::WORDS;
@@ -138,6 +138,7 @@ fn tell_file(
 
 // List, cells and wall of block b.
 fn tell(
+    rt: HostRuntime,
     c: Command,
     b: usize,
     mesh: &mut [u64],
@@ -145,10 +146,10 @@ fn tell(
     text: &mut [u8],
     room: &mut [u8],
 ) -> Status {
-    let Viewers::Bits(viewers) = reading::viewers() else {
+    let Viewers::Bits(viewers) = reading::viewers(rt) else {
         return Status::Error;
     };
-    let contents = reading::file_of(b, room);
+    let contents = reading::file_of(rt, b, room);
     if let Contents::Bytes(n) = contents {
         if n <= room.len() {
             if Header::WORDS <= mesh.len() {
@@ -157,12 +158,13 @@ fn tell(
             }
         }
     }
-    reading::say_unread(b, contents);
+    reading::say_unread(rt, b, contents);
     Status::Error
 }
 
 // A command on block b.
 fn tell_of(
+    rt: HostRuntime,
     c: Command,
     b: usize,
     mesh: &mut [u64],
@@ -171,9 +173,9 @@ fn tell_of(
     room: &mut [u8],
 ) -> Status {
     if let Command::Unwall = c {
-        return wall::unwall(b, mesh, text, room);
+        return wall::unwall(rt, b, mesh, text, room);
     }
-    tell(c, b, mesh, rows, text, room)
+    tell(rt, c, b, mesh, rows, text, room)
 }
 
 // How the commands on one block are written.
@@ -187,12 +189,13 @@ fn tell_usage(c: Command) -> Status {
 }
 
 // Whether there are n words, the program's name among them, and no option.
-fn words_are(n: usize, o: Options) -> bool {
-    (arguments::count() == n) & !o.dry & !o.whole
+fn words_are(rt: HostRuntime, n: usize, o: Options) -> bool {
+    (arguments::count(rt) == n) & !o.dry & !o.whole
 }
 
 // The word of list, cells, wall and unwall.
 fn tell_word(
+    rt: HostRuntime,
     c: Command,
     o: Options,
     mesh: &mut [u64],
@@ -200,16 +203,16 @@ fn tell_word(
     text: &mut [u8],
     room: &mut [u8],
 ) -> Status {
-    if !words_are(3, o) {
+    if !words_are(rt, 3, o) {
         return tell_usage(c);
     }
-    match arguments::number_at(2) {
+    match arguments::number_at(rt, 2) {
         Number::Is(b) => {
             if Header::BLOCKS <= b {
                 say::error(b"a block's number is 0 to 15");
                 return Status::Error;
             }
-            tell_of(c, b as usize, mesh, rows, text, room)
+            tell_of(rt, c, b as usize, mesh, rows, text, room)
         }
         Number::Not => tell_usage(c),
     }
@@ -226,6 +229,7 @@ fn wrong_line(number: u64, why: &[u8]) -> Status {
 
 // Play, once the input is read.
 fn play_input(
+    rt: HostRuntime,
     o: Options,
     input: &[u8],
     requests: &mut [u64],
@@ -238,6 +242,7 @@ fn play_input(
     match playing::take(input, requests) {
         Input::Requests(n) => {
             tasks::run(
+                rt,
                 Task::Play(n),
                 o,
                 input,
@@ -260,6 +265,7 @@ fn play_input(
 
 // Play, with what is read of standard input into lent bytes.
 fn play(
+    rt: HostRuntime,
     o: Options,
     text: &mut [u8],
     requests: &mut [u64],
@@ -269,11 +275,13 @@ fn play(
     outbox: &mut [u8],
     room: &mut [u8],
 ) -> Status {
-    match files::read_open(0, text) {
+    match files::read_input(rt, text) {
         Contents::Bytes(n) => {
             if n <= text.len() {
                 let input = &text[0..n];
-                return play_input(o, input, requests, outcomes, mesh, scratch, outbox, room);
+                return play_input(
+                    rt, o, input, requests, outcomes, mesh, scratch, outbox, room,
+                );
             }
             Status::Error
         }
@@ -302,10 +310,10 @@ fn no_task(usage: &[u8]) -> Planned {
 }
 
 // The oracle that the words name.
-fn oracle_named() -> Named {
+fn oracle_named(rt: HostRuntime) -> Named {
     let mut word = [0u8; 16];
-    let n = arguments::word(2, &mut word);
-    let words = arguments::count();
+    let n = arguments::word(rt, 2, &mut word);
+    let words = arguments::count(rt);
     match command::oracle_of(&word[..n]) {
         OracleWord::All => {
             if words == 3 {
@@ -315,13 +323,13 @@ fn oracle_named() -> Named {
         }
         OracleWord::Box => {
             if words == 9 {
-                return arguments::box_of();
+                return arguments::box_of(rt);
             }
             Named::Not
         }
         OracleWord::Plane => {
             if words == 5 {
-                return arguments::plane_of();
+                return arguments::plane_of(rt);
             }
             Named::Not
         }
@@ -329,8 +337,8 @@ fn oracle_named() -> Named {
     }
 }
 
-fn balance_words() -> Planned {
-    match oracle_named() {
+fn balance_words(rt: HostRuntime) -> Planned {
+    match oracle_named(rt) {
         Named::Oracle(o) => Planned::Task(Task::Balance(o)),
         Named::Told => Planned::Told,
         Named::Not => no_task(
@@ -347,12 +355,12 @@ enum Blocks {
 }
 
 // The word of split and add.
-fn blocks_word(usage: &[u8]) -> Blocks {
-    if arguments::count() != 3 {
+fn blocks_word(rt: HostRuntime, usage: &[u8]) -> Blocks {
+    if arguments::count(rt) != 3 {
         wrong_words(usage);
         return Blocks::Told;
     }
-    match arguments::number_at(2) {
+    match arguments::number_at(rt, 2) {
         Number::Is(n) => {
             if (n < 1) | (Header::BLOCKS < n) {
                 say::error(b"a basin has 1 to 16 blocks");
@@ -367,15 +375,15 @@ fn blocks_word(usage: &[u8]) -> Blocks {
     }
 }
 
-fn split_words() -> Planned {
-    match blocks_word(b"split K [--dry-run]") {
+fn split_words(rt: HostRuntime) -> Planned {
+    match blocks_word(rt, b"split K [--dry-run]") {
         Blocks::Are(n) => Planned::Task(Task::Split(n)),
         Blocks::Told => Planned::Told,
     }
 }
 
-fn add_words() -> Planned {
-    match blocks_word(b"add K [--dry-run]") {
+fn add_words(rt: HostRuntime) -> Planned {
+    match blocks_word(rt, b"add K [--dry-run]") {
         Blocks::Are(n) => Planned::Task(Task::Add(n)),
         Blocks::Told => Planned::Told,
     }
@@ -383,6 +391,7 @@ fn add_words() -> Planned {
 
 // A task that takes no list of requests.
 fn do_planned(
+    rt: HostRuntime,
     planned: Planned,
     o: Options,
     requests: &mut [u64],
@@ -398,22 +407,40 @@ fn do_planned(
     }
     match planned {
         Planned::Task(t) => {
-            tasks::run(t, o, &[], requests, outcomes, mesh, scratch, outbox, room)
+            tasks::run(
+                rt,
+                t,
+                o,
+                &[],
+                requests,
+                outcomes,
+                mesh,
+                scratch,
+                outbox,
+                room,
+            )
         }
         Planned::Told => Status::Error,
     }
 }
 
 // Check takes no word more.
-fn check_word(o: Options, mesh: &mut [u64], scratch: &mut [u64], room: &mut [u8]) -> Status {
-    if words_are(2, o) {
-        return check(mesh, scratch, room);
+fn check_word(
+    rt: HostRuntime,
+    o: Options,
+    mesh: &mut [u64],
+    scratch: &mut [u64],
+    room: &mut [u8],
+) -> Status {
+    if words_are(rt, 2, o) {
+        return check(rt, mesh, scratch, room);
     }
     wrong_words(b"check")
 }
 
 // Play takes options alone.
 fn play_word(
+    rt: HostRuntime,
     o: Options,
     text: &mut [u8],
     requests: &mut [u64],
@@ -423,24 +450,25 @@ fn play_word(
     outbox: &mut [u8],
     room: &mut [u8],
 ) -> Status {
-    if arguments::count() == 2 {
-        return play(o, text, requests, outcomes, mesh, scratch, outbox, room);
+    if arguments::count(rt) == 2 {
+        return play(rt, o, text, requests, outcomes, mesh, scratch, outbox, room);
     }
     wrong_words(b"play [--dry-run] [--all-or-nothing]")
 }
 
 // The task that a command's words ask for.
-fn plan(c: Command) -> Planned {
+fn plan(rt: HostRuntime, c: Command) -> Planned {
     match c {
-        Command::Balance => balance_words(),
-        Command::Split => split_words(),
-        Command::Add => add_words(),
+        Command::Balance => balance_words(rt),
+        Command::Split => split_words(rt),
+        Command::Add => add_words(rt),
         _ => Planned::Told,
     }
 }
 
 // A command that reads a basin, in memory that is lent to it.
 fn work(
+    rt: HostRuntime,
     c: Command,
     o: Options,
     text: &mut [u8],
@@ -452,18 +480,28 @@ fn work(
     room: &mut [u8],
 ) -> Status {
     match c {
-        Command::Check => check_word(o, mesh, scratch, room),
-        Command::List => tell_word(c, o, mesh, requests, text, room),
-        Command::Cells => tell_word(c, o, mesh, requests, text, room),
-        Command::Wall => tell_word(c, o, mesh, requests, text, room),
-        Command::Unwall => tell_word(c, o, mesh, requests, text, room),
-        Command::Play => play_word(o, text, requests, outcomes, mesh, scratch, outbox, room),
-        _ => do_planned(plan(c), o, requests, outcomes, mesh, scratch, outbox, room),
+        Command::Check => check_word(rt, o, mesh, scratch, room),
+        Command::List => tell_word(rt, c, o, mesh, requests, text, room),
+        Command::Cells => tell_word(rt, c, o, mesh, requests, text, room),
+        Command::Wall => tell_word(rt, c, o, mesh, requests, text, room),
+        Command::Unwall => tell_word(rt, c, o, mesh, requests, text, room),
+        Command::Play => play_word(rt, o, text, requests, outcomes, mesh, scratch, outbox, room),
+        _ => do_planned(
+            rt,
+            plan(rt, c),
+            o,
+            requests,
+            outcomes,
+            mesh,
+            scratch,
+            outbox,
+            room,
+        ),
     }
 }
 
 // The same, with all memory that any command needs: sixteen blocks and what is made of them, 6.5 MB.
-fn with_memory(c: Command, o: Options) -> Status {
+fn with_memory(rt: HostRuntime, c: Command, o: Options) -> Status {
     let mut mesh = [0u64; 524416];
     let mut scratch = [0u64; Header::SCRATCH];
     let mut outbox = [0u8; Header::OUTBOX];
@@ -472,6 +510,7 @@ fn with_memory(c: Command, o: Options) -> Status {
     let mut requests = [0u64; 98304];
     let mut outcomes = [0u64; 16384];
     work(
+        rt,
         c,
         o,
         &mut text,
@@ -485,7 +524,7 @@ fn with_memory(c: Command, o: Options) -> Status {
 }
 
 // Runs a command.
-fn run(c: Command, o: Options) -> Status {
+fn run(rt: HostRuntime, c: Command, o: Options) -> Status {
     match c {
         Command::Help => {
             help();
@@ -495,38 +534,38 @@ fn run(c: Command, o: Options) -> Status {
             say::error(b"unknown command: dispatch help tells what there is");
             Status::Error
         }
-        _ => with_memory(c, o),
+        _ => with_memory(rt, c, o),
     }
 }
 
 // The command that the first word names; without one, help.
-fn command_given() -> Command {
-    if arguments::count() < 2 {
+fn command_given(rt: HostRuntime) -> Command {
+    if arguments::count(rt) < 2 {
         return Command::Help;
     }
     let mut word = [0u8; 16];
-    let n = arguments::word(1, &mut word);
+    let n = arguments::word(rt, 1, &mut word);
     command::command_of(&word[..n])
 }
 
 // The stack that a command needs, in bytes.
 const STACK: u64 = 7864320;
 
-fn start() -> Status {
-    if !process::has_stack(STACK) {
+fn start(rt: HostRuntime) -> Status {
+    if !process::has_stack(rt, STACK) {
         say::error(b"the program needs 7.5 MB of stack, and its limit is lower (ulimit -s 8192)");
         return Status::Error;
     }
-    match arguments::options_given() {
-        Given::Options(o) => run(command_given(), o),
+    match arguments::options_given(rt) {
+        Given::Options(o) => run(rt, command_given(rt), o),
         Given::Told => Status::Error,
     }
 }
 
-fn main() {
-    files::fill_standard();
-    let s = start();
-    let to = arguments::status_descriptor();
+fn main(rt: HostRuntime) {
+    files::fill_standard(rt);
+    let s = start(rt);
+    let to = arguments::status_descriptor(rt);
     if 0 <= to {
         io::write_all(to, &[status::digit(s)]);
     }

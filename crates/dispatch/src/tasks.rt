@@ -21,19 +21,25 @@ pub enum Task {
 }
 
 // Saves a basin that has changed, unless it is a dry run; whether nothing is left to save.
-fn save_if(changed: bool, dry: bool, mesh: &[u64], room: &mut [u8]) -> bool {
+fn save_if(rt: HostRuntime, changed: bool, dry: bool, mesh: &[u64], room: &mut [u8]) -> bool {
     if dry {
         say::text(b"# dry run: nothing saved\n");
         return true;
     }
     if changed {
-        return disk::save(mesh, room);
+        return disk::save(rt, mesh, room);
     }
     true
 }
 
 // What was played. A round that did not finish, which never is on a sound basin, keeps all from being saved.
-fn end_play(outcomes: &[u64], o: Options, mesh: &[u64], room: &mut [u8]) -> Status {
+fn end_play(
+    rt: HostRuntime,
+    outcomes: &[u64],
+    o: Options,
+    mesh: &[u64],
+    room: &mut [u8],
+) -> Status {
     if 0 < playing::count(outcomes, rounds::list::UNFINISHED) {
         say::error(b"a round did not finish: nothing is saved");
         return Status::Error;
@@ -49,7 +55,7 @@ fn end_play(outcomes: &[u64], o: Options, mesh: &[u64], room: &mut [u8]) -> Stat
         say::text(b"# all or nothing: nothing saved\n");
         return Status::Refused;
     }
-    if !save_if(0 < moved, o.dry, mesh, room) {
+    if !save_if(rt, 0 < moved, o.dry, mesh, room) {
         return Status::Error;
     }
     if moved == asked {
@@ -60,6 +66,7 @@ fn end_play(outcomes: &[u64], o: Options, mesh: &[u64], room: &mut [u8]) -> Stat
 
 // Plays requests on a basin that is open.
 fn play_on(
+    rt: HostRuntime,
     o: Options,
     input: &[u8],
     requests: &[u64],
@@ -75,7 +82,7 @@ fn play_on(
     }
     rounds::list::play_all(mesh, viewers, requests, outcomes, outbox);
     playing::show(input, outcomes);
-    end_play(outcomes, o, mesh, room)
+    end_play(rt, outcomes, o, mesh, room)
 }
 
 // How a balance or a part of it ended, after so many moves: there are more, it is level or blocked; or an error or a refusal, which was told.
@@ -147,6 +154,7 @@ fn balance_parts(
 
 // What a balance came to, and the basin saved if anything changed.
 fn end_balance(
+    rt: HostRuntime,
     how: &[u8],
     n: u64,
     by: Oracle,
@@ -165,7 +173,7 @@ fn end_balance(
     if !inspect::show_balance(b"# after:", mesh, viewers, by, scratch) {
         return Status::Error;
     }
-    if !save_if(grown | (0 < n), dry, mesh, room) {
+    if !save_if(rt, grown | (0 < n), dry, mesh, room) {
         return Status::Error;
     }
     Status::Done
@@ -181,6 +189,7 @@ fn may_balance(by: Oracle, mesh: &[u64], viewers: u32, scratch: &mut [u64]) -> b
 
 // Balances a basin that is open, and that may have grown since it was read.
 fn balance_on(
+    rt: HostRuntime,
     by: Oracle,
     grown: bool,
     dry: bool,
@@ -195,9 +204,11 @@ fn balance_on(
         return Status::Refused;
     }
     match balance_parts(by, moves, mesh, viewers, scratch, outbox) {
-        Ended::Level(n) => end_balance(b"level", n, by, grown, dry, mesh, viewers, scratch, room),
+        Ended::Level(n) => end_balance(
+            rt, b"level", n, by, grown, dry, mesh, viewers, scratch, room,
+        ),
         Ended::Blocked(n) => end_balance(
-            b"blocked", n, by, grown, dry, mesh, viewers, scratch, room,
+            rt, b"blocked", n, by, grown, dry, mesh, viewers, scratch, room,
         ),
         Ended::More(_) => {
             say::error(b"there are more moves than a sound basin has: nothing is saved");
@@ -210,6 +221,7 @@ fn balance_on(
 
 // Saves a basin that is open, if it has grown since it was read.
 fn keep_on(
+    rt: HostRuntime,
     grown: bool,
     dry: bool,
     mesh: &[u64],
@@ -223,7 +235,7 @@ fn keep_on(
     say::text(b"# the basin has ");
     say::number((mesh.len() / Header::WORDS) as u64);
     say::text(b" blocks\n");
-    if !save_if(grown, dry, mesh, room) {
+    if !save_if(rt, grown, dry, mesh, room) {
         return Status::Error;
     }
     Status::Done
@@ -259,6 +271,7 @@ fn grows(k: usize, n: usize, mesh: &mut [u64]) -> bool {
 
 // Does a task on a basin that is open, and that may have grown since it was read.
 fn carry_out(
+    rt: HostRuntime,
     task: Task,
     o: Options,
     grown: bool,
@@ -276,18 +289,19 @@ fn carry_out(
             if n <= outcomes.len() {
                 let part = &mut outcomes[0..n];
                 return play_on(
-                    o, input, requests, part, mesh, viewers, scratch, outbox, room,
+                    rt, o, input, requests, part, mesh, viewers, scratch, outbox, room,
                 );
             }
             Status::Error
         }
         Task::Balance(by) => {
             balance_on(
-                by, grown, o.dry, requests, mesh, viewers, scratch, outbox, room,
+                rt, by, grown, o.dry, requests, mesh, viewers, scratch, outbox, room,
             )
         }
         Task::Split(_) => {
             balance_on(
+                rt,
                 Oracle::Every,
                 grown,
                 o.dry,
@@ -299,7 +313,7 @@ fn carry_out(
                 room,
             )
         }
-        Task::Add(_) => keep_on(grown, o.dry, mesh, viewers, scratch, room),
+        Task::Add(_) => keep_on(rt, grown, o.dry, mesh, viewers, scratch, room),
     }
 }
 
@@ -315,6 +329,7 @@ fn blocks_after(task: Task, k: usize) -> usize {
 
 // Does a task on the k blocks that were read, and on those that it adds.
 fn carry_out_on(
+    rt: HostRuntime,
     task: Task,
     o: Options,
     k: usize,
@@ -335,6 +350,7 @@ fn carry_out_on(
         let end = n * Header::WORDS;
         let part = &mut mesh[0..end];
         return carry_out(
+            rt,
             task,
             o,
             k < n,
@@ -353,6 +369,7 @@ fn carry_out_on(
 
 // Reads the basin and does a task on it.
 fn read_and_do(
+    rt: HostRuntime,
     task: Task,
     o: Options,
     input: &[u8],
@@ -364,9 +381,9 @@ fn read_and_do(
     outbox: &mut [u8],
     room: &mut [u8],
 ) -> Status {
-    match reading::look(mesh, room) {
+    match reading::look(rt, mesh, room) {
         Basin::Blocks(k) => carry_out_on(
-            task, o, k, input, requests, outcomes, mesh, viewers, scratch, outbox, room,
+            rt, task, o, k, input, requests, outcomes, mesh, viewers, scratch, outbox, room,
         ),
         Basin::Refused => Status::Refused,
         Basin::Error => Status::Error,
@@ -375,6 +392,7 @@ fn read_and_do(
 
 // The same while this process alone writes, and once a save that was cut short is finished or forgotten.
 fn recover_and_do(
+    rt: HostRuntime,
     task: Task,
     o: Options,
     input: &[u8],
@@ -386,16 +404,17 @@ fn recover_and_do(
     outbox: &mut [u8],
     room: &mut [u8],
 ) -> Status {
-    if !disk::recover(room) {
+    if !disk::recover(rt, room) {
         return Status::Error;
     }
     read_and_do(
-        task, o, input, requests, outcomes, mesh, viewers, scratch, outbox, room,
+        rt, task, o, input, requests, outcomes, mesh, viewers, scratch, outbox, room,
     )
 }
 
 // Does a task on the basin of this folder: in a dry run as a reader does, else while this process alone writes.
 pub fn run(
+    rt: HostRuntime,
     task: Task,
     o: Options,
     input: &[u8],
@@ -406,20 +425,20 @@ pub fn run(
     outbox: &mut [u8],
     room: &mut [u8],
 ) -> Status {
-    let Viewers::Bits(viewers) = reading::viewers() else {
+    let Viewers::Bits(viewers) = reading::viewers(rt) else {
         return Status::Error;
     };
     if o.dry {
         return read_and_do(
-            task, o, input, requests, outcomes, mesh, viewers, scratch, outbox, room,
+            rt, task, o, input, requests, outcomes, mesh, viewers, scratch, outbox, room,
         );
     }
-    match lock::take(room) {
+    match lock::take(rt, room) {
         Taken::Held => {
             let s = recover_and_do(
-                task, o, input, requests, outcomes, mesh, viewers, scratch, outbox, room,
+                rt, task, o, input, requests, outcomes, mesh, viewers, scratch, outbox, room,
             );
-            lock::release();
+            lock::release(rt);
             s
         }
         Taken::Busy => Status::Error,

@@ -125,6 +125,7 @@ fn compare_file(
 
 // The same with the file that a reader sees.
 fn compare(
+    rt: HostRuntime,
     b: usize,
     viewers: u32,
     n: usize,
@@ -132,13 +133,13 @@ fn compare(
     text: &mut [u8],
     room: &mut [u8],
 ) -> Status {
-    let contents = reading::file_of(b, room);
+    let contents = reading::file_of(rt, b, room);
     if let Contents::Bytes(m) = contents {
         if m <= room.len() {
             return compare_file(b, viewers, n, &room[0..m], block, text);
         }
     }
-    reading::say_unread(b, contents);
+    reading::say_unread(rt, b, contents);
     Status::Error
 }
 
@@ -174,20 +175,28 @@ fn say_other(b: usize) -> Status {
 }
 
 // The block that pages have, as a listing; then, if they are block b's, what block b of the basin has of it.
-fn show(b: usize, viewers: u32, block: &mut [u64], text: &mut [u8], room: &mut [u8]) -> Status
+fn show(
+    rt: HostRuntime,
+    b: usize,
+    viewers: u32,
+    block: &mut [u64],
+    text: &mut [u8],
+    room: &mut [u8],
+) -> Status
     requires { holds_block block.old ≡ true }
 {
     let number = inspect::number_in(block);
     let n = list_block(block, text);
     show_listing(number, n, text);
     if number == b as u64 {
-        return compare(b, viewers, n, block, text, room);
+        return compare(rt, b, viewers, n, block, text, room);
     }
     say_other(b)
 }
 
 // The first n of lent bytes as pages that are to be block b's.
 fn unwall_read(
+    rt: HostRuntime,
     b: usize,
     viewers: u32,
     n: usize,
@@ -198,16 +207,16 @@ fn unwall_read(
     if n <= text.len() {
         return match block::from_pages(viewers, b, &text[0..n], block) {
             Answer::Refused(r) => say_refused(answers::refusal_number(r)),
-            Answer::Served => show(b, viewers, block, text, room),
+            Answer::Served => show(rt, b, viewers, block, text, room),
         };
     }
     Status::Error
 }
 
 // Standard input, as far as it can be pages.
-fn read_input(text: &mut [u8]) -> Contents {
+fn read_input(rt: HostRuntime, text: &mut [u8]) -> Contents {
     if READ <= text.len() {
-        let contents = files::read_open(0, &mut text[0..READ]);
+        let contents = files::read_input(rt, &mut text[0..READ]);
         if let Contents::TooLarge = contents {
             return Contents::Bytes(READ);
         }
@@ -217,15 +226,21 @@ fn read_input(text: &mut [u8]) -> Contents {
 }
 
 // Pages on standard input, shown and held to block b of the basin.
-pub fn unwall(b: usize, mesh: &mut [u64], text: &mut [u8], room: &mut [u8]) -> Status {
-    let Viewers::Bits(viewers) = reading::viewers() else {
+pub fn unwall(
+    rt: HostRuntime,
+    b: usize,
+    mesh: &mut [u64],
+    text: &mut [u8],
+    room: &mut [u8],
+) -> Status {
+    let Viewers::Bits(viewers) = reading::viewers(rt) else {
         return Status::Error;
     };
-    match read_input(text) {
+    match read_input(rt, text) {
         Contents::Bytes(n) => {
             if Header::WORDS <= mesh.len() {
                 let block = &mut mesh[0..Header::WORDS];
-                return unwall_read(b, viewers, n, block, text, room);
+                return unwall_read(rt, b, viewers, n, block, text, room);
             }
             Status::Error
         }

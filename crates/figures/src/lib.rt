@@ -1,1 +1,3 @@
+#![tactic(auto)]
+
 // The starred figures are a theorem in specs/Figures.antt; this crate has no code.

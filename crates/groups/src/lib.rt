@@ -1,4 +1,6 @@
 // Numbers as groups of seven bits, coordinates and labels: put into a slice at a place, and read at a place.
+#![tactic(auto)]
+
 ghost use Rattle.std.specs.Prelude.{cond, [], ◌∷◌, ◌≡◌, ◌+◌, ◌≤◌, ◌<◌, ◌^◌, ltb, length};
 ghost use Rattle.model.specs.Values.{serial_bound};
 ghost use Rattle.model.specs.Layouts.{groups, group_below, group, serial, at_most, group_count, coordinate};

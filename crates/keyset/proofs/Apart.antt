@@ -2,13 +2,13 @@
 use mathlib.Core.Path.{◌≡◌, refl, sym, ◌∙◌}
 use mathlib.Core.Bool.{true, false, not}
 use mathlib.Core.List.{List, [], ◌∷◌}
-use Prim.Native.Nat.{ℕ, zero, suc, ◌≤◌, ◌<◌}
+use Prim.Native.Nat.{ℕ, zero, suc, ◌≤◌}
 use native.Mathlib.Omega.{arith}
 use lib.ListN.{length, get_or, take}
 use lib.Seq.{get_or-take, length-take-le}
 use Rattle.model.specs.Lists.{mem, distinct}
 use Rattle.laws.proofs.Tests.{by_cases, and_intro, and_right}
-use Rattle.laws.proofs.Members.{In, in_here, in_there, distinct_not, getD_in}
+use Rattle.laws.proofs.Members.{distinct_not, getD_in}
 use Rattle.theory.proofs.ImageLaws.{place_back}
 use Rattle.keyset.specs.Slots.{KeysApart, Searched}
 use Rattle.keyset.specs.declared.Search.{Search}

@@ -1,4 +1,6 @@
 // Whether no key stands twice, through a table of slots: a search for a key goes through 64 slots at the most, and gives up there.
+#![tactic(auto)]
+
 ghost use Rattle.std.specs.Prelude.{◌≡◌, ℕ, ◌≤◌, ◌<◌, length, get_or, replicate};
 ghost use Rattle.model.specs.Values.{room};
 ghost use Rattle.keyset.specs.Slots.{low_part, high_part, slot_of, slot_count, Probed, Searched};

@@ -1,4 +1,6 @@
 // What the listing program prints for a file: its listing, `refused N`, or `too long`.
+#![tactic(auto)]
+
 ghost use Rattle.std.specs.Prelude.{◌≤◌, length, replicate};
 ghost use Rattle.model.specs.Values.{rack};
 ghost use Rattle.model.specs.Image.{words};

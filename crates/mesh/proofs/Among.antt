@@ -1,12 +1,12 @@
 -- Question 2 of a block in a mesh with viewers: it is sound by the rack's limits, and has no more darts than its own say. Assumes nothing.
-use mathlib.Core.Path.{◌≡◌, refl, sym, ap, ◌∙◌}
-use mathlib.Core.Bool.{Bool, true, false, true≢false, not}
+use mathlib.Core.Path.{◌≡◌, sym, ap, ◌∙◌}
+use mathlib.Core.Bool.{Bool, true, false, true≢false}
 use mathlib.Core.List.{List}
-use Prim.Native.Nat.{ℕ, ◌/◌, ◌≤◌, ◌<◌}
+use Prim.Native.Nat.{ℕ, ◌/◌, ◌≤◌}
 use native.Mathlib.Omega.{arith}
 use lib.Dec.{leb}
 use lib.ListN.{length, get_or}
-use borrow.Author.Tests.{leb-true, le-leb, not-true, not-false}
+use borrow.Author.Tests.{leb-true, le-leb}
 use Rattle.laws.proofs.Tables.{length_tab}
 use Rattle.laws.proofs.Tests.{by_cases, same_truth}
 use Rattle.model.specs.Lists.{all}
@@ -33,13 +33,13 @@ module _ (viewers : ℕ) (b : List ℕ) (l : length b ≡ words) {r : Bool} (sai
   abbrev own : Limits
   own = limits_in viewers (get_or b 0 0)
 
-  pub not_sound : not r ≡ true → false ≡ sound_memory viewers b
-  not_sound f = by_cases (sound_memory viewers b) (λ e. absurd (true≢false (sym (holds_by own b l e) ∙ sym said ∙ not-true r f))) (λ e. sym e)
+  pub not_sound : r ≡ false → false ≡ sound_memory viewers b
+  not_sound f = by_cases (sound_memory viewers b) (λ e. absurd (true≢false (sym (holds_by own b l e) ∙ sym said ∙ f))) (λ e. sym e)
 
-  pub sound_few : not r ≡ false → (c : limits.Limits) → limits_of c ≡ own → leb (count_in b) c.block ≡ sound_memory viewers b
+  pub sound_few : r ≡ true → (c : limits.Limits) → limits_of c ≡ own → leb (count_in b) c.block ≡ sound_memory viewers b
   sound_few f c e = ap (λ (x : Limits). leb (count_in b) x.block_darts) e
       ∙ same_truth (leb (count_in b) own.block_darts) (sound_memory viewers b)
-      (λ t. image_fits widest own b (leb-true _ _ t) (sym said ∙ not-false r f))
+      (λ t. image_fits widest own b (leb-true _ _ t) (sym said ∙ f))
       (λ t. le-leb _ _ (few_in own b t))
 
 -- every block of a mesh that passes is a sound block of the rack

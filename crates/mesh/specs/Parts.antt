@@ -1,5 +1,5 @@
 -- A mesh in memory, part by part: the images of its blocks one after the other. Assumes nothing.
-use Rattle.std.specs.Prelude.{Bool, ◌&&◌, ◌||◌, ◌≡◌, List, [], ◌++◌, ℕ, zero, suc, ◌+◌, ◌*◌, ◌/◌, ◌%◌, ◌^◌, ◌≤◌, ◌<◌, eqb, ltb, length, get_or, take, drop}
+use Rattle.std.specs.Prelude.{Bool, ◌&&◌, ◌||◌, ◌≡◌, List, [], ◌++◌, ℕ, zero, suc, ◌+◌, ◌*◌, ◌/◌, ◌≤◌, ◌<◌, eqb, ltb, length, get_or, take, drop}
 use Rattle.model.specs.Lists.{tab}
 use Rattle.columns.specs.Columns.{all_below}
 use Rattle.model.specs.Image.{label_in, words, column, is_free_word, is_sewn_word, is_image}

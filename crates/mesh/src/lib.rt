@@ -1,4 +1,6 @@
 // The questions at the door of a whole mesh: its blocks' images one after the other, and a scratch that is zero before and after.
+#![tactic(auto)]
+
 pub mod serials; // serials.rt: question 24, the serials of all blocks
 pub mod makers; // makers.rt: question 27, the makers of labels
 

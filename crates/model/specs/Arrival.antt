@@ -2,7 +2,7 @@
 use Rattle.std.specs.Prelude.{Bool, true, false, not, ◌&&◌, ◌||◌, List, [], ◌∷◌, ◌++◌, map, ℕ, suc, ◌+◌, leb, ltb, eqb, length, get_or}
 use Rattle.std.proofs.Math.Option.{Option, none, some}
 use Rattle.model.specs.Lists.{all, any, keep, mem, distinct, ascending, find, insert, collect, zip, concat_map, turned, least, same_list, Check}
-use Rattle.model.specs.Values.{Label, free, sewn, critical, Dart, Block, Limits, code, same_point, finite, no_point, is_critical_with, label_of, with_other}
+use Rattle.model.specs.Values.{Label, free, critical, Dart, Block, Limits, code, same_point, finite, no_point, is_critical_with, label_of, with_other}
 use Rattle.model.specs.Cells.{cycle, volume, vertices, vertex_number, start_of, dart_at, held, next_in, opposite_in, previous_in, third_at, labels, least_label, labelled}
 use Rattle.model.specs.Messages.{FaceDart, Part2, Part3, Part4, Transfer, Update, size_all, Message, a_transfer, an_update, no_message}
 use Rattle.model.specs.Links.{pairs_once, Placed, placed, Link, relink, label_links, sew_both}

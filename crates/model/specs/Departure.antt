@@ -1,5 +1,5 @@
 -- A volume leaves a block: questions 9 to 14, the messages, and the block without it. Assumes nothing.
-use Rattle.std.specs.Prelude.{Bool, false, cond, not, ◌&&◌, List, [], ◌∷◌, ◌++◌, map, ℕ, suc, ◌+◌, leb, ltb, eqb, length}
+use Rattle.std.specs.Prelude.{Bool, false, cond, not, ◌&&◌, List, [], ◌∷◌, map, ℕ, suc, ◌+◌, leb, ltb, eqb, length}
 use Rattle.std.proofs.Math.Option.{Option, none, some}
 use Rattle.model.specs.Lists.{all, keep, mem, collect, concat, concat_map, tab, Check}
 use Rattle.model.specs.Values.{blocks, last_block, number_bound, Label, Third, free, sewn, critical, Dart, Block, code, is_critical_with, partner}

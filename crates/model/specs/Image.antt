@@ -2,7 +2,7 @@
 -- A header of 8 words (number, counter, dart count, five zeros), then 8 words for each dart in ascending serial: serial, place of
 -- next, place of opposite, kind + 4 × other block, place of the sewn dart or the label's code, x, y, z; "unused memory zero".
 -- A place is an index into the block's darts.
-use Rattle.std.specs.Prelude.{Bool, cond, ◌&&◌, List, [], ◌∷◌, ◌++◌, map, ℕ, suc, ◌+◌, ◌*◌, ◌-◌, ◌/◌, ◌%◌, ◌^◌, leb, eqb, length, get_or, replicate}
+use Rattle.std.specs.Prelude.{Bool, cond, ◌&&◌, List, [], ◌∷◌, ◌++◌, map, ℕ, suc, ◌+◌, ◌*◌, ◌-◌, ◌/◌, ◌%◌, leb, eqb, length, get_or, replicate}
 use Rattle.model.specs.Lists.{concat, index_of, tab, same_list, Check}
 use Rattle.model.specs.Values.{number_bound, positions, Point, Label, Third, free, sewn, critical, Dart, Block, Limits, rack, widest, code}
 use Rattle.model.specs.Cells.{serials, labels}

@@ -1,6 +1,6 @@
 -- Sound blocks and sound meshes, as tests. Each test has the number of its question (3 to 8 of a block, 23 to 27 of a mesh).
 -- Assumes nothing.
-use Rattle.std.specs.Prelude.{Bool, true, false, not, ◌&&◌, ◌||◌, List, [], ◌∷◌, map, ◌≡◌, ℕ, suc, ◌≤◌, ◌^◌, min, leb, ltb, eqb, length, get_or}
+use Rattle.std.specs.Prelude.{Bool, true, false, not, ◌&&◌, ◌||◌, List, [], ◌∷◌, map, ◌≡◌, ℕ, suc, ◌≤◌, min, leb, ltb, eqb, length, get_or}
 use Rattle.model.specs.Lists.{all, any, keep, distinct, ascending, concat_map, passed, Check}
 use Rattle.model.specs.Values.{room, message_darts, blocks, last_block, last_position, number_bound, Third, free, sewn, critical, Dart, Block, no_block, Limits, serial_bound, code, label_key, has_label, same_point, finite, is_free, is_sewn_to, is_critical_with}
 use Rattle.model.specs.Cells.{dart_at, held, next_in, opposite_in, third_at, previous_in, serials, labels, labelled}

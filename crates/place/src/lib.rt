@@ -1,4 +1,6 @@
 // The three numbers of a dart that arrives, each of its own type, read from the arrays and memories that keep them as plain numbers.
+#![tactic(auto)]
+
 pub mod renumber; // renumber.rt: a record whose places have moved
 
 ghost use Rattle.std.specs.Prelude.{◌≡◌, ◌+◌, ◌≤◌, ◌<◌, length, get_or};

@@ -96,7 +96,7 @@ fn put_bytes(commit: &[u8], n: usize, room: &mut [u8])
     requires { (n ≤ length commit.now) × (n ≤ length room.old) }
     ensures { room.new ≡ take n commit.now ++ drop n room.old }
 {
-    bytes::copy(&commit[0..n], room);
+    room[0..n].copy_from_slice(&commit[0..n]);
 }
 
 // The commit of all blocks of a mesh.

@@ -1,4 +1,6 @@
 // Test scripts: lines of text, and the memory and the bytes that they set and print.
+#![tactic(auto)]
+
 pub mod blocks; // blocks.rt: words and darts put into memory
 pub mod line; // line.rt: commands, numbers and bytes of a line
 pub mod show; // show.rt: figures printed

@@ -16,9 +16,9 @@ use Rattle.laws.proofs.Members.{In}
 use Rattle.laws.proofs.Volumes.{volume_enough}
 use Rattle.theory.proofs.BlockLaws.{pv_nx}
 use Rattle.soundness.proofs.ByDarts.{Frame, point_of}
-use Rattle.soundness.proofs.Fits.{Fits, fits}
+use Rattle.soundness.proofs.Fits.{fits}
 use Rattle.soundness.proofs.NewDarts.{new_serials, new_frame}
-use Rattle.soundness.proofs.Passed.{Eighteen, eighteen, high}
+use Rattle.soundness.proofs.Passed.{eighteen, high}
 use Rattle.soundness.proofs.Starts.{count_serials}
 
 -- a function from a finite list onto itself is one to one

@@ -10,6 +10,7 @@ use commands::viewers::Viewers;
 use commands::{names, viewers};
 use memory::header::Header;
 use saving::{commit, look};
+use std::fs::File as Open;
 use system::files::{Contents, Opened};
 use system::{files, process, say};
 
@@ -34,6 +35,34 @@ pub enum Seen {
     Moving,
 }
 
+// The file of a block, open, or nothing. It is closed where it is let go.
+#[derive(Drop)]
+enum Held {
+    Nothing,
+    File(Open),
+}
+
+fn nothing_held() -> [Held; memory::header::BLOCKS] {
+    [
+        Held::Nothing,
+        Held::Nothing,
+        Held::Nothing,
+        Held::Nothing,
+        Held::Nothing,
+        Held::Nothing,
+        Held::Nothing,
+        Held::Nothing,
+        Held::Nothing,
+        Held::Nothing,
+        Held::Nothing,
+        Held::Nothing,
+        Held::Nothing,
+        Held::Nothing,
+        Held::Nothing,
+        Held::Nothing,
+    ]
+}
+
 // How one block was read.
 #[derive(Clone, Copy)]
 enum Part {
@@ -54,8 +83,8 @@ fn take(b: usize, file: &[u8], mesh: &mut [u64]) -> Part {
 }
 
 // An open file, into block b of a mesh.
-fn take_open(b: usize, fd: i32, mesh: &mut [u64], room: &mut [u8]) -> Part {
-    match files::read_open(fd, room) {
+fn take_open(b: usize, open: &mut Open, mesh: &mut [u64], room: &mut [u8]) -> Part {
+    match files::read_open(open, room) {
         Contents::Bytes(n) => {
             if n <= room.len() {
                 return take(b, &room[0..n], mesh);
@@ -68,19 +97,27 @@ fn take_open(b: usize, fd: i32, mesh: &mut [u64], room: &mut [u8]) -> Part {
     }
 }
 
-// Notes the descriptor of block b's file.
-fn hold(b: usize, fd: i32, held: &mut [i32]) {
+// Holds block b's file; where there is no place for it, it is closed.
+fn hold(b: usize, open: Open, held: &mut [Held]) {
     if b < held.len() {
-        held[b] = fd;
+        held[b] = Held::File(open);
     }
 }
 
 // The file under a block's name, opened, held in `held`, and read.
-fn take_named(b: usize, held: &mut [i32], mesh: &mut [u64], room: &mut [u8]) -> Part {
-    match files::open(&names::block(b)) {
-        Opened::At(fd) => {
-            hold(b, fd, held);
-            take_open(b, fd, mesh, room)
+fn take_named(
+    rt: HostRuntime,
+    b: usize,
+    held: &mut [Held],
+    mesh: &mut [u64],
+    room: &mut [u8],
+) -> Part {
+    match files::open(rt, &names::block(b)) {
+        Opened::At(open) => {
+            let mut open = open;
+            let part = take_open(b, &mut open, mesh, room);
+            hold(b, open, held);
+            part
         }
         Opened::Missing => Part::Missing,
         Opened::Pipe => Part::Wrong(Fault::Pipe),
@@ -89,10 +126,10 @@ fn take_named(b: usize, held: &mut [i32], mesh: &mut [u64], room: &mut [u8]) -> 
 }
 
 // The first block from k on whose file is there; 16 where there is none.
-fn next_there(k: usize) -> usize {
+fn next_there(rt: HostRuntime, k: usize) -> usize {
     let mut b = k;
     while b < memory::header::BLOCKS {
-        if files::is_there(&names::block(b)) {
+        if files::is_there(rt, &names::block(b)) {
             return b;
         }
         b += 1;
@@ -101,8 +138,8 @@ fn next_there(k: usize) -> usize {
 }
 
 // The blocks once block k is not found.
-fn counted(k: usize) -> Seen {
-    let behind = next_there(k);
+fn counted(rt: HostRuntime, k: usize) -> Seen {
+    let behind = next_there(rt, k);
     if behind < memory::header::BLOCKS {
         return Seen::Gap(k, behind);
     }
@@ -110,15 +147,15 @@ fn counted(k: usize) -> Seen {
 }
 
 // The files under the names, from block 0 on.
-fn take_names(held: &mut [i32], mesh: &mut [u64], room: &mut [u8]) -> Seen {
+fn take_names(rt: HostRuntime, held: &mut [Held], mesh: &mut [u64], room: &mut [u8]) -> Seen {
     let mut b = 0;
     while b < memory::header::BLOCKS {
-        match take_named(b, held, mesh, room) {
+        match take_named(rt, b, held, mesh, room) {
             Part::Block => {
                 b += 1;
             }
             Part::Missing => {
-                return counted(b);
+                return counted(rt, b);
             }
             Part::Wrong(f) => {
                 return Seen::Wrong(b, f);
@@ -129,22 +166,21 @@ fn take_names(held: &mut [i32], mesh: &mut [u64], room: &mut [u8]) -> Seen {
 }
 
 // Whether block b's name still leads to the file that is held, if one is.
-fn stands(b: usize, held: &[i32]) -> bool {
+fn stands(rt: HostRuntime, b: usize, held: &[Held]) -> bool {
     if held.len() <= b {
         return true;
     }
-    let fd = held[b];
-    if fd < 0 {
-        return true;
+    match &held[b] {
+        Held::File(open) => files::leads_to(rt, &names::block(b), open),
+        Held::Nothing => true,
     }
-    files::leads_to(&names::block(b), fd)
 }
 
 // Whether each name still leads to the file that is held.
-fn all_stand(held: &[i32]) -> bool {
+fn all_stand(rt: HostRuntime, held: &[Held]) -> bool {
     let mut b = 0;
     while b < memory::header::BLOCKS {
-        if !stands(b, held) {
+        if !stands(rt, b, held) {
             return false;
         }
         b += 1;
@@ -152,28 +188,21 @@ fn all_stand(held: &[i32]) -> bool {
     true
 }
 
-fn close_all(held: &[i32]) {
-    let mut b = 0;
-    while b < held.len() {
-        let fd = held[b];
-        if 0 <= fd {
-            files::close(fd);
-        }
-        b += 1;
-    }
+fn close_all(held: [Held; memory::header::BLOCKS]) {
+    drop(held);
 }
 
-fn has_commit() -> bool {
-    files::is_there(b"basin.commit")
+fn has_commit(rt: HostRuntime) -> bool {
+    files::is_there(rt, b"basin.commit")
 }
 
 // What stands under the names, if it stood there at one moment without a commit.
-fn see_names(mesh: &mut [u64], room: &mut [u8]) -> Seen {
-    let mut held = [-1i32; memory::header::BLOCKS];
-    let seen = take_names(&mut held, mesh, room);
-    let quiet = !has_commit();
-    let steady = all_stand(&held);
-    close_all(&held);
+fn see_names(rt: HostRuntime, mesh: &mut [u64], room: &mut [u8]) -> Seen {
+    let mut held = nothing_held();
+    let seen = take_names(rt, &mut held, mesh, room);
+    let quiet = !has_commit(rt);
+    let steady = all_stand(rt, &held);
+    close_all(held);
     if quiet & steady {
         return seen;
     }
@@ -194,6 +223,7 @@ fn take_committed(b: usize, file: &[u8], bytes: &[u8], mesh: &mut [u64]) -> bool
 
 // The same of the file of a name.
 fn take_if_committed(
+    rt: HostRuntime,
     file: File,
     b: usize,
     bytes: &[u8],
@@ -202,7 +232,7 @@ fn take_if_committed(
 ) -> bool {
     let name = names::name_of(file);
     let text = name.bytes;
-    match files::read_named(&text, name.size, room) {
+    match files::read_named(rt, &text, name.size, room) {
         Contents::Bytes(n) => {
             if n <= room.len() {
                 return take_committed(b, &room[0..n], bytes, mesh);
@@ -216,18 +246,24 @@ fn take_if_committed(
 }
 
 // The committed file of block b: the new one, or the one under its name.
-fn take_either(b: usize, bytes: &[u8], mesh: &mut [u64], room: &mut [u8]) -> bool {
-    if take_if_committed(File::NewBlock(b), b, bytes, mesh, room) {
+fn take_either(rt: HostRuntime, b: usize, bytes: &[u8], mesh: &mut [u64], room: &mut [u8]) -> bool {
+    if take_if_committed(rt, File::NewBlock(b), b, bytes, mesh, room) {
         return true;
     }
-    take_if_committed(File::Block(b), b, bytes, mesh, room)
+    take_if_committed(rt, File::Block(b), b, bytes, mesh, room)
 }
 
 // What a commit of k blocks commits, if all of it is there.
-fn see_committed(k: usize, bytes: &[u8], mesh: &mut [u64], room: &mut [u8]) -> Seen {
+fn see_committed(
+    rt: HostRuntime,
+    k: usize,
+    bytes: &[u8],
+    mesh: &mut [u64],
+    room: &mut [u8],
+) -> Seen {
     let mut b = 0;
     while b < k {
-        if !take_either(b, bytes, mesh, room) {
+        if !take_either(rt, b, bytes, mesh, room) {
             return Seen::Moving;
         }
         b += 1;
@@ -236,35 +272,35 @@ fn see_committed(k: usize, bytes: &[u8], mesh: &mut [u64], room: &mut [u8]) -> S
 }
 
 // What is seen with the commit that was read.
-fn see_commit(bytes: &[u8], mesh: &mut [u64], room: &mut [u8]) -> Seen {
+fn see_commit(rt: HostRuntime, bytes: &[u8], mesh: &mut [u64], room: &mut [u8]) -> Seen {
     let k = commit::committed(bytes);
     if k == 0 {
         return Seen::NoCommit;
     }
-    see_committed(k, bytes, mesh, room)
+    see_committed(rt, k, bytes, mesh, room)
 }
 
 // One look.
-fn see(mesh: &mut [u64], room: &mut [u8]) -> Seen {
+fn see(rt: HostRuntime, mesh: &mut [u64], room: &mut [u8]) -> Seen {
     let mut bytes = [0u8; 512];
-    match files::read(b"basin.commit", &mut bytes) {
+    match files::read(rt, b"basin.commit", &mut bytes) {
         Contents::Bytes(n) => {
             if n <= bytes.len() {
-                return see_commit(&bytes[0..n], mesh, room);
+                return see_commit(rt, &bytes[0..n], mesh, room);
             }
             Seen::NoCommit
         }
-        Contents::Missing => see_names(mesh, room),
+        Contents::Missing => see_names(rt, mesh, room),
         Contents::TooLarge => Seen::NoCommit,
         Contents::Failed(e) => Seen::Unread(e),
     }
 }
 
 // Looks until no save is in the way, a thousand times at most.
-fn look_again(mesh: &mut [u64], room: &mut [u8]) -> Seen {
+fn look_again(rt: HostRuntime, mesh: &mut [u64], room: &mut [u8]) -> Seen {
     let mut tries: usize = 0;
     while tries < 1000 {
-        match see(mesh, room) {
+        match see(rt, mesh, room) {
             Seen::Moving => {
                 process::pause();
                 tries += 1;
@@ -307,7 +343,7 @@ pub fn say_refused(b: usize, question: u32) {
 }
 
 // What is wrong with block b's file.
-fn say_fault(b: usize, fault: Fault) -> Basin {
+fn say_fault(rt: HostRuntime, b: usize, fault: Fault) -> Basin {
     match fault {
         Fault::Refused(question) => {
             say_refused(b, question);
@@ -326,7 +362,7 @@ fn say_fault(b: usize, fault: Fault) -> Basin {
             Basin::Error
         }
         Fault::Failed(e) => {
-            files::say_unread(&names::block(b), e);
+            files::say_unread(rt, &names::block(b), e);
             Basin::Error
         }
     }
@@ -342,12 +378,12 @@ fn say_gap(k: usize, b: usize) {
 }
 
 // A basin has one block at least, and none behind the sixteenth.
-fn say_blocks(k: usize) -> Basin {
+fn say_blocks(rt: HostRuntime, k: usize) -> Basin {
     if k == 0 {
         say::error(b"there is no block-00.dmap in this folder");
         return Basin::Error;
     }
-    if files::is_there(b"block-16.dmap") {
+    if files::is_there(rt, b"block-16.dmap") {
         say::error(b"there is a block-16.dmap: a basin has at most sixteen blocks, 00 to 15");
         return Basin::Error;
     }
@@ -355,10 +391,10 @@ fn say_blocks(k: usize) -> Basin {
 }
 
 // Reads the blocks of a basin into a mesh.
-pub fn look(mesh: &mut [u64], room: &mut [u8]) -> Basin {
-    match look_again(mesh, room) {
-        Seen::Blocks(k) => say_blocks(k),
-        Seen::Wrong(b, f) => say_fault(b, f),
+pub fn look(rt: HostRuntime, mesh: &mut [u64], room: &mut [u8]) -> Basin {
+    match look_again(rt, mesh, room) {
+        Seen::Blocks(k) => say_blocks(rt, k),
+        Seen::Wrong(b, f) => say_fault(rt, b, f),
         Seen::Gap(k, b) => {
             say_gap(k, b);
             Basin::Error
@@ -368,7 +404,7 @@ pub fn look(mesh: &mut [u64], room: &mut [u8]) -> Basin {
             Basin::Error
         }
         Seen::Unread(e) => {
-            files::say_unread(b"basin.commit", e);
+            files::say_unread(rt, b"basin.commit", e);
             Basin::Error
         }
         Seen::Moving => {
@@ -379,10 +415,16 @@ pub fn look(mesh: &mut [u64], room: &mut [u8]) -> Basin {
 }
 
 // The bytes of a file that has the length and the digest that a commit gives block b; missing where it has not.
-fn committed_bytes(file: File, b: usize, bytes: &[u8], room: &mut [u8]) -> Contents {
+fn committed_bytes(
+    rt: HostRuntime,
+    file: File,
+    b: usize,
+    bytes: &[u8],
+    room: &mut [u8],
+) -> Contents {
     let name = names::name_of(file);
     let text = name.bytes;
-    match files::read_named(&text, name.size, room) {
+    match files::read_named(rt, &text, name.size, room) {
         Contents::Bytes(n) => {
             if n <= room.len() {
                 if look::same(commit::entry_of(&room[0..n]), commit::entry_in(bytes, b)) {
@@ -398,13 +440,13 @@ fn committed_bytes(file: File, b: usize, bytes: &[u8], room: &mut [u8]) -> Conte
 }
 
 // Block b's file by a commit: the new one, or the one under its name.
-fn file_by(bytes: &[u8], b: usize, room: &mut [u8]) -> Contents {
+fn file_by(rt: HostRuntime, bytes: &[u8], b: usize, room: &mut [u8]) -> Contents {
     if commit::committed(bytes) <= b {
-        return files::read(&names::block(b), room);
+        return files::read(rt, &names::block(b), room);
     }
-    match committed_bytes(File::NewBlock(b), b, bytes, room) {
+    match committed_bytes(rt, File::NewBlock(b), b, bytes, room) {
         Contents::Bytes(n) => Contents::Bytes(n),
-        Contents::Missing => committed_bytes(File::Block(b), b, bytes, room),
+        Contents::Missing => committed_bytes(rt, File::Block(b), b, bytes, room),
         Contents::TooLarge => Contents::TooLarge,
         Contents::Failed(e) => Contents::Failed(e),
     }
@@ -429,37 +471,37 @@ fn viewers_of(text: &[u8], n: usize) -> Viewers {
 }
 
 // Which blocks are viewers', by the file `viewers`; none where there is no such file. What is wrong with it is said.
-pub fn viewers() -> Viewers {
+pub fn viewers(rt: HostRuntime) -> Viewers {
     let mut text = [0u8; 64];
-    match files::read(b"viewers", &mut text) {
+    match files::read(rt, b"viewers", &mut text) {
         Contents::Bytes(n) => viewers_of(&text, n),
         Contents::Missing => Viewers::Bits(0),
         Contents::TooLarge => wrong_viewers(),
         Contents::Failed(e) => {
-            files::say_unread(b"viewers", e);
+            files::say_unread(rt, b"viewers", e);
             Viewers::Wrong
         }
     }
 }
 
 // Block b's file, at the start of the room, in the state that a reader sees.
-pub fn file_of(b: usize, room: &mut [u8]) -> Contents {
+pub fn file_of(rt: HostRuntime, b: usize, room: &mut [u8]) -> Contents {
     let mut bytes = [0u8; 512];
-    match files::read(b"basin.commit", &mut bytes) {
+    match files::read(rt, b"basin.commit", &mut bytes) {
         Contents::Bytes(n) => {
             if n <= bytes.len() {
-                return file_by(&bytes[0..n], b, room);
+                return file_by(rt, &bytes[0..n], b, room);
             }
             Contents::Missing
         }
-        Contents::Missing => files::read(&names::block(b), room),
-        Contents::TooLarge => files::read(&names::block(b), room),
-        Contents::Failed(_) => files::read(&names::block(b), room),
+        Contents::Missing => files::read(rt, &names::block(b), room),
+        Contents::TooLarge => files::read(rt, &names::block(b), room),
+        Contents::Failed(_) => files::read(rt, &names::block(b), room),
     }
 }
 
 // Says why block b's file was not read.
-pub fn say_unread(b: usize, contents: Contents) {
+pub fn say_unread(rt: HostRuntime, b: usize, contents: Contents) {
     match contents {
         Contents::Bytes(_) => (),
         Contents::Missing => {
@@ -472,6 +514,6 @@ pub fn say_unread(b: usize, contents: Contents) {
             say::complain(&names::block(b));
             say::complain(b"\n");
         }
-        Contents::Failed(e) => files::say_unread(&names::block(b), e),
+        Contents::Failed(e) => files::say_unread(rt, &names::block(b), e),
     }
 }

@@ -3,4 +3,5 @@ pub mod say; // say.rt: what is printed
 pub mod text; // text.rt: texts in lent bytes
 pub mod process; // process.rt: processes of this machine
 pub mod files; // files.rt: whole files by name
+pub mod cause; // cause.rt: numbers of errors
 pub mod lock; // lock.rt: one writer at a time

@@ -4,9 +4,10 @@
 ghost use Rattle.std.specs.Prelude.{◌≡◌, ◌≤◌, length};
 
 use crate::files::Contents;
-use crate::{files, process, say, text};
+use crate::{cause, files, process, say, text};
 use commands::words;
 use commands::words::Kind;
+use std::time::{SystemTime, UNIX_EPOCH};
 
 // Whether this process may write: it has the lock, another one has it, or it cannot be had. What is wrong is said.
 #[derive(Clone, Copy)]
@@ -48,16 +49,19 @@ fn put_line(host: &[u8], stat: &[u8], line: &mut [u8]) -> usize
     text::add(line, d, &stat[start_from..start_end])
 }
 
-// The line of this process; how many bytes, 0 where /proc does not tell of it.
-fn own_line(line: &mut [u8]) -> usize
+// The line of this process; how many bytes, 0 where /proc does not tell of it, or of its host.
+fn own_line(rt: HostRuntime, line: &mut [u8]) -> usize
     ensures { (result ≤ length line.new) × (length line.new ≡ length line.old) }
 {
     let mut name = [0u8; 65];
-    let room: &mut [u8] = &mut name;
-    libc::gethostname(room);
-    let host = text::before_zero(room);
+    let told = files::read_told(rt, b"/proc/sys/kernel/hostname", &mut name);
+    if told == 0 {
+        return 0;
+    }
+    // A line feed stands behind the name.
+    let host = words::leading(Kind::Line, &name[0..text::before_zero(&name)]);
     let mut stat = [0u8; 1024];
-    let n = process::read_stat(b"self", &mut stat);
+    let n = process::read_stat(rt, b"self", &mut stat);
     if n == 0 {
         return 0;
     }
@@ -65,7 +69,7 @@ fn own_line(line: &mut [u8]) -> usize
 }
 
 // Whether the process of a line may still run. One of another host cannot be asked, and counts as running.
-fn may_run(line: &[u8], own: &[u8]) -> bool {
+fn may_run(rt: HostRuntime, line: &[u8], own: &[u8]) -> bool {
     let host = text::word(line, 0);
     let process = text::word(line, 1);
     let start = text::word(line, 2);
@@ -85,13 +89,14 @@ fn may_run(line: &[u8], own: &[u8]) -> bool {
         return true;
     }
     process::is_running(
+        rt,
         &line[process_from..process_end],
         &line[start_from..start_end],
     )
 }
 
 // Who stands first in these lines.
-fn first_in(lines: &[u8], own: &[u8]) -> First {
+fn first_in(rt: HostRuntime, lines: &[u8], own: &[u8]) -> First {
     // No line before `at` is this process's, or one that may run.
     let mut at = 0;
     while at < lines.len() {
@@ -99,7 +104,7 @@ fn first_in(lines: &[u8], own: &[u8]) -> First {
         if words::same(&lines[at..end], own) {
             return First::Own;
         }
-        if may_run(&lines[at..end], own) {
+        if may_run(rt, &lines[at..end], own) {
             return First::Other(at, end);
         }
         if end == lines.len() {
@@ -111,11 +116,11 @@ fn first_in(lines: &[u8], own: &[u8]) -> First {
 }
 
 // Who stands first in the lock's file, which is left in the room.
-fn look(own: &[u8], room: &mut [u8]) -> First {
-    match files::read(&lock_name(), room) {
+fn look(rt: HostRuntime, own: &[u8], room: &mut [u8]) -> First {
+    match files::read(rt, &lock_name(), room) {
         Contents::Bytes(n) => {
             if n <= room.len() {
-                return first_in(&room[0..n], own);
+                return first_in(rt, &room[0..n], own);
             }
             First::Unknown
         }
@@ -126,12 +131,12 @@ fn look(own: &[u8], room: &mut [u8]) -> First {
 }
 
 // Adds a line to the lock's file; 0, or why not. It begins with a line feed, in case that the one before was cut off.
-fn add_line(line: &[u8]) -> i32 {
+fn add_line(rt: HostRuntime, line: &[u8]) -> i32 {
     let mut whole = [0u8; 256];
     let a = text::add(&mut whole, 0, b"\n");
     let b = text::add(&mut whole, a, line);
     let n = text::add(&mut whole, b, b"\n");
-    files::append(&lock_name(), &whole[0..n])
+    files::append(rt, &lock_name(), &whole[0..n])
 }
 
 // Who has the lock.
@@ -149,21 +154,26 @@ fn say_busy(line: &[u8]) {
     say::complain(b" is writing this basin (basin.lock): nothing was done\n");
 }
 
-// The time in seconds.
-fn seconds() -> i64 {
-    let mut t = 0;
-    libc::time(&mut t)
+// The time in seconds; 0 where it is not known.
+fn seconds(rt: HostRuntime) -> u64 {
+    match SystemTime::now(&rt) {
+        Ok(now) => match now.duration_since(UNIX_EPOCH) {
+            Ok(since) => since.as_secs(),
+            Err(_) => 0,
+        },
+        Err(_) => 0,
+    }
 }
 
 // How often the second has changed, and which it was last.
 #[derive(Clone, Copy)]
 struct Clock {
-    second: i64,
+    second: u64,
     changes: u64,
 }
 
-fn tick(c: Clock) -> Clock {
-    let now = seconds();
+fn tick(rt: HostRuntime, c: Clock) -> Clock {
+    let now = seconds(rt);
     if now == c.second {
         return c;
     }
@@ -183,8 +193,8 @@ fn say_other(from: usize, end: usize, room: &[u8]) {
 }
 
 // Whether this process stands first when it is asked once more: who had the lock may have removed the file in between, and this line with it.
-fn is_first_again(own: &[u8], room: &mut [u8]) -> bool {
-    match look(own, room) {
+fn is_first_again(rt: HostRuntime, own: &[u8], room: &mut [u8]) -> bool {
+    match look(rt, own, room) {
         First::Own => true,
         First::Other(_, _) => false,
         First::Nobody => false,
@@ -201,16 +211,16 @@ enum Looked {
 }
 
 // Looks who stands first, and adds this process's line where it is missing. Who waits gives up when the second has changed three times.
-fn turn(clock: Clock, own: &[u8], room: &mut [u8]) -> Looked {
-    match look(own, room) {
+fn turn(rt: HostRuntime, clock: Clock, own: &[u8], room: &mut [u8]) -> Looked {
+    match look(rt, own, room) {
         First::Own => {
-            if is_first_again(own, room) {
+            if is_first_again(rt, own, room) {
                 return Looked::Ended(Taken::Held);
             }
             Looked::Again(clock)
         }
         First::Other(from, end) => {
-            let c = tick(clock);
+            let c = tick(rt, clock);
             if 2 < c.changes {
                 say_other(from, end, room);
                 return Looked::Ended(Taken::Busy);
@@ -219,8 +229,8 @@ fn turn(clock: Clock, own: &[u8], room: &mut [u8]) -> Looked {
             Looked::Again(c)
         }
         First::Nobody => {
-            let e = add_line(own);
-            if e == libc::ENOENT {
+            let e = add_line(rt, own);
+            if e == cause::ENOENT {
                 // Who had the lock removed the file while this line was to be added to it.
                 return Looked::Again(clock);
             }
@@ -235,21 +245,21 @@ fn turn(clock: Clock, own: &[u8], room: &mut [u8]) -> Looked {
             Looked::Ended(Taken::Failed)
         }
         First::Unread(e) => {
-            files::say_unread(b"basin.lock", e);
+            files::say_unread(rt, b"basin.lock", e);
             Looked::Ended(Taken::Failed)
         }
     }
 }
 
 // Looks until it is settled.
-fn wait(own: &[u8], room: &mut [u8]) -> Taken {
+fn wait(rt: HostRuntime, own: &[u8], room: &mut [u8]) -> Taken {
     let mut clock = Clock {
-        second: seconds(),
+        second: seconds(rt),
         changes: 0,
     };
     let mut tries: usize = 0;
     while tries < 1000000 {
-        match turn(clock, own, room) {
+        match turn(rt, clock, own, room) {
             Looked::Ended(t) => {
                 return t;
             }
@@ -264,17 +274,17 @@ fn wait(own: &[u8], room: &mut [u8]) -> Taken {
 }
 
 // Takes the lock.
-pub fn take(room: &mut [u8]) -> Taken {
+pub fn take(rt: HostRuntime, room: &mut [u8]) -> Taken {
     let mut line = [0u8; 192];
-    let n = own_line(&mut line);
+    let n = own_line(rt, &mut line);
     if n == 0 {
         say::error(b"cannot lock this folder: /proc does not tell of this process");
         return Taken::Failed;
     }
-    wait(&line[0..n], room)
+    wait(rt, &line[0..n], room)
 }
 
 // Gives the lock back.
-pub fn release() {
-    files::remove(&lock_name());
+pub fn release(rt: HostRuntime) {
+    files::remove(rt, &lock_name());
 }

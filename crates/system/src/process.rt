@@ -6,6 +6,7 @@ use crate::text::Span;
 use crate::{files, text};
 use commands::words;
 use commands::words::Number;
+use std::thread;
 
 // The place behind the last closing bracket of a text, where a process's name ends; 0 where there is none.
 fn past_name(stat: &[u8]) -> usize
@@ -53,20 +54,20 @@ fn has_ended(stat: &[u8]) -> bool {
 }
 
 // What /proc says of the process that a word names, at the start of the room; how many bytes, 0 where there is no such process.
-pub fn read_stat(process: &[u8], room: &mut [u8]) -> usize
+pub fn read_stat(rt: HostRuntime, process: &[u8], room: &mut [u8]) -> usize
     ensures { result ≤ length room.new }
 {
     let mut path = [0u8; 64];
     let a = text::add(&mut path, 0, b"/proc/");
     let b = text::add(&mut path, a, process);
     let n = text::add(&mut path, b, b"/stat");
-    files::read_told(&path[0..n], room)
+    files::read_told(rt, &path[0..n], room)
 }
 
 // Whether the process that is named by a number and the time of its start still runs.
-pub fn is_running(process: &[u8], start: &[u8]) -> bool {
+pub fn is_running(rt: HostRuntime, process: &[u8], start: &[u8]) -> bool {
     let mut room = [0u8; 1024];
-    let n = read_stat(process, &mut room);
+    let n = read_stat(rt, process, &mut room);
     if n == 0 {
         return false;
     }
@@ -84,7 +85,7 @@ pub fn is_running(process: &[u8], start: &[u8]) -> bool {
 pub fn pause() {
     let mut i: usize = 0;
     while i < 1000 {
-        libc::sched_yield();
+        thread::yield_now();
         i += 1;
     }
 }
@@ -98,9 +99,9 @@ fn fourth_number(line: &[u8]) -> Number {
 }
 
 // Whether this process's stack may grow to a size in bytes; yes where /proc does not tell, or tells of no limit below 2^32.
-pub fn has_stack(size: u64) -> bool {
+pub fn has_stack(rt: HostRuntime, size: u64) -> bool {
     let mut room = [0u8; 4096];
-    let n = files::read_told(b"/proc/self/limits", &mut room);
+    let n = files::read_told(rt, b"/proc/self/limits", &mut room);
     let limits = &room[0..n];
     let line = text::line_with(limits, b"Max stack size");
     let from = line.from;

@@ -1,4 +1,5 @@
 // What is printed: texts, numbers, and what a refusal means.
+use crate::cause;
 
 pub fn text(s: &[u8]) {
     io::write_all(1, s);
@@ -104,35 +105,35 @@ pub fn refused(question: u32) {
 
 // What an error number of the system means.
 pub fn cause(error: i32) {
-    if error == libc::EACCES {
+    if error == cause::EACCES {
         complain(b"no permission");
         return;
     }
-    if error == libc::ENOSPC {
+    if error == cause::ENOSPC {
         complain(b"the disk is full");
         return;
     }
-    if error == libc::EISDIR {
+    if error == cause::EISDIR {
         complain(b"it is a folder");
         return;
     }
-    if error == libc::ESPIPE {
+    if error == cause::ESPIPE {
         complain(b"it is a pipe");
         return;
     }
-    if error == libc::EBADF {
+    if error == cause::EBADF {
         complain(b"it is closed");
         return;
     }
-    if error == libc::EROFS {
+    if error == cause::EROFS {
         complain(b"the disk cannot be written");
         return;
     }
-    if error == libc::EIO {
+    if error == cause::EIO {
         complain(b"the disk failed");
         return;
     }
-    if error == libc::ENOENT {
+    if error == cause::ENOENT {
         complain(b"it is missing");
         return;
     }

@@ -1,4 +1,6 @@
 // Blanks, quoted texts and numbers in decimal, read at a place of some bytes.
+#![tactic(auto)]
+
 ghost use Rattle.std.specs.Prelude.{true, false, ◌↔◌, ◌≡◌, ◌+◌, ◌-◌, ◌≤◌, length};
 ghost use Rattle.laws.specs.Standing.{Stands};
 ghost use Rattle.model.specs.Text.{is_digit as digit-test};

@@ -1,6 +1,6 @@
 -- A block without its points, under the least counter: its links are as they were, and it is sound. Assumes nothing.
 use mathlib.Core.Path.{◌≡◌, refl, sym, ◌∙◌, ap}
-use mathlib.Core.Bool.{Bool, true, false, true≢false, cond, not, ◌&&◌, ◌||◌}
+use mathlib.Core.Bool.{Bool, true, cond, not, ◌&&◌, ◌||◌}
 use mathlib.Core.List.{List, [], ◌∷◌, map}
 use mathlib.Core.Option
 use mathlib.Core.Option.{Option, none, some}
@@ -8,18 +8,17 @@ use Prim.Native.Nat.{ℕ, suc, ◌<◌, ◌≤◌, ◌^◌}
 use native.Mathlib.Omega.{arith}
 use lib.Dec.{leb, ltb, eqb}
 use lib.ListN.{length, length-map}
-use borrow.Author.Tests.{leb-true, leb-false, le-leb, ltb-true, lt-ltb, eqb-true}
-use Rattle.laws.proofs.Tests.{by_cases, and_left, and_right, and_intro, find_map, yes_then, yes_first, no_more}
+use borrow.Author.Tests.{leb-true, leb-false, le-leb, ltb-true, lt-ltb}
+use Rattle.laws.proofs.Tests.{by_cases, and_left, and_right, and_intro, find_map, yes_first}
 use Rattle.laws.proofs.Members.{all_map, any_map, map_map, collect_map}
 use Rattle.laws.proofs.Maps.{all_weaken}
-use Rattle.model.specs.Lists.{all, any, ascending, collect, distinct, find, first_no}
-use Rattle.model.specs.Values.{Label, Third, free, sewn, critical, Dart, no_point, no_dart, or_no_dart, Block, Limits, room, serial_bound, number_bound, code, label_of, same_point, finite, finite_bits}
-use Rattle.model.specs.Cells.{serials, held, dart_at, next_in, opposite_in, third_at, labels}
-use Rattle.model.specs.Sound.{third_in_range, dart_in_range, ranges_right, coordinates_finite, link_right, links_right, sewn_along, third_right, thirds_right, label_right, labels_right, sewn_points, points_agree, sound_block}
+use Rattle.model.specs.Lists.{all, ascending, collect, find, first_no}
+use Rattle.model.specs.Values.{Label, Third, free, sewn, critical, Dart, no_point, no_dart, or_no_dart, Limits, serial_bound, number_bound, label_of, same_point, finite, finite_bits}
+use Rattle.model.specs.Cells.{serials, dart_at, next_in, opposite_in, third_at, labels}
+use Rattle.model.specs.Sound.{dart_in_range, ranges_right, coordinates_finite, link_right, links_right, sewn_along, third_right, thirds_right, label_right, labels_right, sewn_points, points_agree, sound_block}
 use Rattle.model.specs.Image.{counter_above, new_block}
-use Rattle.model.specs.Messages.{third_ok}
-use Rattle.model.specs.Pages.{Row, Paged, row_of, paged, dart_of, block_of, row_ok, paged_ok, paged_checks}
-use Rattle.theory.proofs.ImageLaws.{Parts, parts_sound}
+use Rattle.model.specs.Pages.{Row, Paged, row_of, dart_of, block_of, row_ok, paged_ok, paged_checks}
+use Rattle.theory.proofs.ImageLaws.{parts_sound}
 use Rattle.theory.proofs.DemandTwo.{ok_third}
 use Rattle.theory.proofs.PageLaws.{PagedRight, paged_right, row_small, row_positive}
 

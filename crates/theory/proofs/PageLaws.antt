@@ -1,28 +1,26 @@
 -- The layout of pages is lawful: how long lines and pages are, where each row stands, and what is read back. Assumes nothing.
 use mathlib.Core.Path.{◌≡◌, refl, sym, ◌∙◌, ap}
-use mathlib.Core.Bool.{Bool, true, false, cond, not, ◌&&◌}
+use mathlib.Core.Bool.{Bool, true, false, ◌&&◌}
 use mathlib.Core.List.{List, [], ◌∷◌, ◌++◌, map, append_assoc}
-use mathlib.Core.Option.{some}
 use mathlib.Core.Logic.{◌⊎◌, ⊎_elim}
-use Prim.Native.Nat.{ℕ, zero, suc, ◌+◌, ◌*◌, ◌-◌, ◌/◌, ◌%◌, ◌^◌, ◌<◌, ◌≤◌, max}
+use Prim.Native.Nat.{ℕ, zero, suc, ◌+◌, ◌*◌, ◌-◌, ◌/◌, ◌%◌, ◌^◌, ◌<◌, ◌≤◌}
 use native.Mathlib.Omega.{arith}
-use lib.Dec.{leb, ltb, eqb}
-use lib.ListN.{length, get_or, take, drop, replicate, length-append, length-replicate, take-append-drop}
+use lib.Dec.{leb, ltb}
+use lib.ListN.{length, get_or, take, drop, length-append, length-replicate, take-append-drop}
 use lib.Seq.{take-append_seam, drop-append_seam, drop-drop, get_or_at}
 use borrow.Author.Tests.{leb-true, le-leb, ltb-true, lt-ltb, le-ltb}
 use Rattle.laws.specs.Standing.{Stands}
-use Rattle.laws.proofs.Tests.{by_cases, and_left, and_right, and_intro, all_at, lt_or_ge, same_list_is, same_list_self, not_equal}
+use Rattle.laws.proofs.Tests.{by_cases, and_left, and_right, and_intro, all_at, same_list_is, same_list_self, not_equal}
 use Rattle.laws.proofs.Standings.{stands_left, stands_right, stands_at, stands_is, stands_take, stands_first, many_stand, length_pieces, piece_stands}
 use Rattle.model.specs.Lists.{all, ascending, concat, tab, same_list}
 use Rattle.model.specs.Values.{Label, Third, free, sewn, critical, Limits, room, serial_bound, last_block}
 use Rattle.model.specs.Text.{bytes, is_digit, decimal, third_text}
-use Rattle.model.specs.Layouts.{group, group_below, serial, ◌⊗◌, ◌⊕◌, as_type, such_that, at_most, when}
+use Rattle.model.specs.Layouts.{group, group_below, serial, ◌⊗◌, ◌⊕◌, as_type, such_that, at_most}
 use Rattle.model.specs.Messages.{label, critical_link, third_ok}
 use Rattle.model.specs.Pages.{Row, Paged, no_row, blanks, line_feed, number_column, third_column, first_line, row_line, blank_line, line_of, page_count, page, pages_text, number_from, number_at, numbers_from, third_from, row_from, row_place, has_row, run, paged_from, row_ok, paged_ok, pages}
-use Rattle.model.specs.Demands.{Bytes}
 use Rattle.theory.proofs.LayoutLaws.{Lawful, when_some, read_eq}
 use Rattle.theory.proofs.ImageLaws.{tab_list}
-use Rattle.theory.proofs.TextLaws.{decimal_most, decimal_ten, decimal_digits, decimal_back, numbers_back, number_append, last_digit_of}
+use Rattle.theory.proofs.TextLaws.{decimal_most, decimal_ten, decimal_back, numbers_back, number_append, last_digit_of}
 
 -- RANGES
 -- the numbers of a label

@@ -10,18 +10,18 @@ use native.Mathlib.Omega.{arith}
 use lib.Dec.{leb, ltb, eqb}
 use lib.ListN.{length, take, drop, replicate, length-map, length-replicate}
 use lib.Seq.{take-append_seam}
-use borrow.Author.Tests.{eqb-true, eq-eqb, leb-true, le-leb, lt-ltb}
+use borrow.Author.Tests.{eq-eqb, le-leb, lt-ltb}
 use Rattle.model.specs.Lists.{all, mem, ascending, distinct, is_some, first_no, Check}
 use Rattle.model.specs.Values.{Label, Dart, Block, Limits, serial_bound, number_bound, code, room}
-use Rattle.model.specs.Cells.{serials, labels}
+use Rattle.model.specs.Cells.{labels}
 use Rattle.model.specs.Sound.{links_right, thirds_right, label_right, labels_right, coordinates_finite, sound_block}
 use Rattle.model.specs.Image.{words_of, image, block_in, is_image, memory_checks, counter_above, new_block}
 use Rattle.model.specs.Layouts.{serial, group_below, ◌⊗◌, ◌⊕◌, as_type, at_most, whole}
 use Rattle.model.specs.Messages.{kind_of, third_ok, third, a_dart}
 use Rattle.model.specs.Pages.{Row, Paged, row_of, paged, dart_of, block_of, row_ok, paged_ok, pages_text, pages, or_no_pages, paged_checks}
-use Rattle.model.specs.Calls.{Answer, served, refused, number_of, Result, asked, storing, writing_asked, write_pages, read_pages}
+use Rattle.model.specs.Calls.{served, number_of, Result, asked, storing, writing_asked, write_pages, read_pages}
 use Rattle.model.specs.Demands.{Bytes, PagesExact}
-use Rattle.laws.proofs.Tests.{by_cases, and_left, and_right, and_intro, yes_then, no_here, yes_first, no_more}
+use Rattle.laws.proofs.Tests.{and_left, and_right, and_intro, yes_then, yes_first, no_more}
 use Rattle.laws.proofs.Members.{all_map, map_map}
 use Rattle.laws.proofs.Maps.{map_self}
 use Rattle.theory.proofs.LayoutLaws.{whole_back, whole_only}

@@ -1,4 +1,6 @@
 // Writes a block's pages, as dispatchers pin them up. The count of darts tells how many bytes they have, so 30 is asked before anything is written.
+#![tactic(auto)]
+
 pub mod line; // line.rt: columns, and the three kinds of line
 pub mod page; // page.rt: the lines of a page, and all pages
 

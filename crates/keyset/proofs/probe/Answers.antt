@@ -1,4 +1,3 @@
-use Prim.Native.Nat.{◌-◌}
 use Rattle.keyset.proofs.Spread.{slot_le, index_lt, going_none, at_zero, at_key, going_more, at_end}
 use native.Mathlib.Omega.{arith}
 use Rattle.keyset.proofs.probe.Goals as goal

@@ -1,4 +1,3 @@
-use Prim.Native.Nat.{◌-◌}
 use mathlib.Core.Path.{refl}
 use Rattle.keyset.proofs.Spread.{none_spread, twice, one_more, all_spread}
 use native.Mathlib.Omega.{arith}

@@ -2,10 +2,6 @@ use Rattle.model.specs.Values.{rack}
 use Rattle.listing.proofs.Listed.{listed_long, listed_short}
 use Rattle.listfile.proofs.Texts.{printed_as}
 use native.Mathlib.Omega.{arith}
-use Rattle.listfile.proofs.list_file.Reads as reads
-use Rattle.listfile.proofs.list_file.Lts as lts
-use Rattle.listfile.proofs.list_whole.Reads as list-whole-reads
-use Rattle.listing.proofs.put_too_long.Reads as put-too-long-reads
 use Rattle.listfile.proofs.list_file.Goals as goal
 
 pub returns-then-file-gt65536 : goal.returns-then-file-gt65536

@@ -4,18 +4,12 @@ use Rattle.theory.proofs.LayoutLaws.{byte_list}
 use Rattle.listing.proofs.Listed.{of_served, of_refused, served_image}
 use Rattle.listfile.proofs.Texts.{printed_as, printed_number, gives_served, gives_refused}
 use native.Mathlib.Omega.{arith}
-use Rattle.listfile.proofs.list_whole.Reads as reads
-use Rattle.listfile.proofs.list_whole.Lts as lts
-use Rattle.answers.proofs.refusal_number.Reads as refusal-number-reads
-use Rattle.listing.proofs.put_listing.Reads as put-listing-reads
-use Rattle.listing.proofs.put_refused.Reads as put-refused-reads
-use Rattle.readfile.proofs.read_file.Reads as read-file-reads
 use Rattle.listfile.proofs.list_whole.Goals as goal
 
 pub put_listing-requires : goal.put_listing-requires
 put_listing-requires c =
     let file = c.args.file.now in (
-      served_image rack file _ (omega arith) (byte_list file (λ i. Fits-lt-pow (c.shared_slice_known-1.given i)))
+      served_image rack file _ (omega arith) (byte_list file (λ i. Fits-lt-pow (c.type_inv.file i)))
           (gives_served c.in-Served.is c.read_file.ensures),
       c.requires,
     )

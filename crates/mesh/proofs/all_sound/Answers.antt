@@ -1,4 +1,3 @@
-use Prim.Native.Nat.{◌-◌}
 use mathlib.Core.Path.{◌∙◌}
 use Rattle.sound.proofs.Passes.{going_none, going_no, going_more, going_end}
 use Rattle.mesh.proofs.Parts.{sound_test, sound_is}

@@ -1,5 +1,4 @@
 use mathlib.Core.Path.{refl}
-use Prim.Native.Nat.{◌-◌}
 use Rattle.mesh.proofs.Parts.{tested_none, tested_more, tested_end}
 use Rattle.mesh.proofs.numbered.Goals as goal
 

@@ -1,5 +1,4 @@
 use mathlib.Core.Path.{◌∙◌}
-use Prim.Native.Nat.{◌-◌}
 use Rattle.mesh.proofs.Parts.{tested_none, tested_more, tested_end, zero_read, zeros_is}
 use Rattle.mesh.proofs.zeros.Goals as goal
 

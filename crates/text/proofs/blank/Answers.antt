@@ -1,4 +1,3 @@
-use Prim.Native.Nat.{◌-◌}
 use Rattle.text.proofs.Readings.{blank_none, blank_more, blank_all}
 use native.Mathlib.Omega.{arith}
 use Rattle.text.proofs.blank.Goals as goal

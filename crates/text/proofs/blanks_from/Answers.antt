@@ -1,4 +1,3 @@
-use Prim.Native.Nat.{◌-◌}
 use Rattle.text.proofs.Readings.{past_none, past_more}
 use native.Mathlib.Omega.{arith}
 use Rattle.text.proofs.blanks_from.Goals as goal

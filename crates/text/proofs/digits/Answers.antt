@@ -1,5 +1,4 @@
 use mathlib.Core.Path.{refl, sym, ◌∙◌}
-use Prim.Native.Nat.{◌-◌}
 use Rattle.text.proofs.Readings.{digits_none, digits_more, too_large}
 use native.Mathlib.Omega.{arith}
 use Rattle.text.proofs.digits.Goals as goal

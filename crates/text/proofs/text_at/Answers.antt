@@ -1,4 +1,3 @@
-use Prim.Native.Nat.{◌-◌}
 use Rattle.text.proofs.Readings.{match_none, match_more, match_not, match_all}
 use Rattle.text.proofs.text_at.Goals as goal
 

@@ -1,5 +1,4 @@
 use mathlib.Core.Path.{sym, ◌∙◌}
-use Prim.Native.Nat.{◌-◌}
 use Rattle.commands.proofs.Viewing.{bit_small, viewing_none, viewing_start, viewing_ends, viewing_goes_on, viewing_passes, viewing_over, ends_is, goes_on_within}
 use native.Mathlib.Omega.{arith}
 use Rattle.commands.proofs.viewers.viewers_in.Goals as goal

@@ -1,5 +1,4 @@
 use mathlib.Core.Path.{sym, ◌∙◌}
-use Prim.Native.Nat.{◌-◌}
 use Rattle.commands.specs.Words.{belongs}
 use Rattle.commands.proofs.Scans.{leading_on, leading_stop, leading_end, leading_start}
 use native.Mathlib.Omega.{arith}

@@ -1,5 +1,5 @@
 use mathlib.Core.Path.{sym, ◌∙◌}
-use Prim.Native.Nat.{◌+◌, ◌*◌, ◌-◌}
+use Prim.Native.Nat.{◌+◌, ◌*◌}
 use Rattle.commands.proofs.Scans.{digits_on, digits_no_digit, digits_too_many, digits_end, number_some, number_none}
 use native.Mathlib.Omega.{arith}
 use Rattle.commands.proofs.words.number_in.Goals as goal

@@ -1,5 +1,4 @@
 use mathlib.Core.Path.{refl, sym, ◌∙◌}
-use Prim.Native.Nat.{◌-◌}
 use Rattle.commands.proofs.Scans.{same_on, same_stop, same_end, same_short}
 use native.Mathlib.Omega.{arith}
 use Rattle.commands.proofs.words.same.Goals as goal

@@ -1,4 +1,3 @@
-use Prim.Native.Nat.{◌-◌}
 use lib.ListN.{length-set}
 use Rattle.memory.proofs.Headers.{clear_none, clear_more, clear_all}
 use native.Mathlib.Omega.{arith}

@@ -1,4 +1,3 @@
-use Prim.Native.Nat.{◌-◌}
 use Rattle.sound.proofs.Passes.{going_none, going_no, going_more, going_end}
 use Rattle.mesh.proofs.Made.{made_at}
 use Rattle.mesh.proofs.makers.made_darts.Goals as goal

@@ -1,4 +1,3 @@
-use Prim.Native.Nat.{◌-◌}
 use mathlib.Core.Path.{◌∙◌, sym}
 use Rattle.mesh.proofs.Gathers.{gathering_none, gathering_more, gathering_room, gathering_end, gathered_none, gathered_more}
 use Rattle.mesh.specs.Parts.{gathered}

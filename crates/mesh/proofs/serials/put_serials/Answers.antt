@@ -1,4 +1,3 @@
-use Prim.Native.Nat.{◌-◌}
 use Rattle.mesh.proofs.Gathers.{putting_none, putting_more, putting_end}
 use mathlib.Core.Path.{refl}
 use Rattle.mesh.proofs.serials.put_serials.Goals as goal

@@ -1,4 +1,4 @@
-use Rattle.std.proofs.Common.{◌-◌, refl}
+use Rattle.std.proofs.Common.{refl}
 use Rattle.script.proofs.blocks.pairs.Goals as goal
 
 pub loop-p-init : goal.loop-p-init

@@ -1,4 +1,4 @@
-use Rattle.std.proofs.Common.{◌-◌, refl}
+use Rattle.std.proofs.Common.{refl}
 use Rattle.script.proofs.blocks.pillow.Goals as goal
 
 pub loop-i-init : goal.loop-i-init

@@ -1,4 +1,4 @@
-use Rattle.std.proofs.Common.{◌-◌, refl}
+use Rattle.std.proofs.Common.{refl}
 use Rattle.script.proofs.blocks.put_words.Goals as goal
 
 pub loop-k-init : goal.loop-k-init

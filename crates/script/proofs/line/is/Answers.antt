@@ -1,4 +1,3 @@
-use Rattle.std.proofs.Common.{◌-◌}
 use Rattle.script.proofs.line.is.Goals as goal
 
 pub loop-i-init : goal.loop-i-init

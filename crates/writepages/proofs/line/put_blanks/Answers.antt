@@ -1,4 +1,4 @@
-use Prim.Native.Nat.{ℕ, ◌-◌}
+use Prim.Native.Nat.{ℕ}
 use lib.ListN.{length-replicate}
 use Rattle.groups.proofs.Writing.{stored_length}
 use Rattle.listing.proofs.Copies.{copy_none}

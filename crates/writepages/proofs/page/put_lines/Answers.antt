@@ -1,4 +1,3 @@
-use Prim.Native.Nat.{◌-◌}
 use Rattle.model.specs.Pages.{page_rows}
 use Rattle.groups.proofs.Writing.{stored_length}
 use Rattle.savefile.proofs.Pieces.{place_more, place_all}

@@ -1,4 +1,3 @@
-use Prim.Native.Nat.{◌-◌}
 use Rattle.model.specs.Image.{block_in}
 use Rattle.model.specs.Pages.{paged, page}
 use Rattle.groups.proofs.Writing.{stored_length}

@@ -1,0 +1,11 @@
+-- `store::reading::next_there` meets its contract. The measure is how many blocks are left of sixteen. Assumes nothing.
+use Prim.Native.Nat.{◌-◌, ◌≤◌}
+use Rattle.store.proofs.reading.next_there.Given as goal
+
+abbrev pub invariant-loop-b : goal.invariant-loop-b
+invariant-loop-b l =
+    l.k ≤ l.b
+
+abbrev pub decreases-loop-b : goal.decreases-loop-b
+decreases-loop-b l =
+    16 - l.b
