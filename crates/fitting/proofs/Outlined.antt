@@ -16,7 +16,7 @@ use Rattle.model.specs.Arrival.{volume_right}
 use Rattle.laws.proofs.Tests.{by_cases, and_left, and_right}
 use Rattle.inbox.specs.declared.message.Front.{Front}
 use Rattle.inbox.specs.declared.message.Tail.{Tail}
-use Rattle.inbox.specs.Inbox.{is_hollow, points_in, some_darts}
+use Rattle.inbox.specs.Inbox.{is_hollow, points_in}
 use Rattle.inbox.specs.Arrived.{TransferOutlined}
 use Rattle.arrival.specs.Draft.{TransferTold, NewSerials}
 use Rattle.arrival.proofs.Nineteen.{hollow_no, each_below, vertices_fit, is_numbered}

@@ -1,4 +1,6 @@
 // Question 20 as a whole: the parts of a transfer whose darts are drafted.
+#![tactic(auto)]
+
 ghost use Rattle.std.specs.Prelude.{◌≡◌, true, List, ℕ, ◌≤◌, ◌<◌, ◌^◌, length, get_or};
 ghost use Rattle.model.specs.Image.{holds_block};
 ghost use Rattle.model.specs.Values.{message_darts, last_block};

@@ -144,7 +144,8 @@ pub fn read_tail(s: &[u8], at: usize, darts: usize, sizes: &[usize]) -> TailOrNo
     else {
         return TailOrNot::Not;
     };
-    if fourth.next != s.len() {
+    let last = fourth.next;
+    if last != s.len() {
         return TailOrNot::Not;
     }
     TailOrNot::Tail(Tail {

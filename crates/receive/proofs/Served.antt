@@ -3,7 +3,6 @@ use mathlib.Core.Path.{◌≡◌, sym, ◌∙◌, ap, subst}
 use mathlib.Core.Bool.{Bool, true, false, true≢false, not, ◌&&◌}
 use mathlib.Core.List.{List}
 use Prim.Native.Nat.{ℕ, ◌+◌, ◌≤◌, ◌<◌}
-use native.Mathlib.Omega.{arith}
 use lib.Dec.{leb}
 use lib.ListN.{length, get_or}
 use borrow.Author.Tests.{not-true}
@@ -11,7 +10,7 @@ use Rattle.model.specs.Lists.{all, mem, tab}
 use Rattle.model.specs.Values.{Limits, finite, room}
 use Rattle.model.specs.Cells.{held}
 use Rattle.model.specs.Image.{words_of, column, block_in, holds_block}
-use Rattle.model.specs.Messages.{Transfer, a_transfer, message_in, transfer}
+use Rattle.model.specs.Messages.{Transfer, a_transfer, message_in}
 use Rattle.model.specs.Demands.{Bytes}
 use Rattle.model.specs.Arrival.{transfer_links}
 use Rattle.model.specs.Calls.{served}

@@ -31,7 +31,7 @@ use Rattle.join.specs.Join.{JoinIndexed, Linking}
 use Rattle.join.proofs.JoinedImage.{image_joined}
 use Rattle.ranking.specs.Ranks.{index_at}
 use Rattle.arrival.specs.Draft.{Draft, TransferTold}
-use Rattle.arrival.proofs.DraftLaws.{sited, serial_of, links}
+use Rattle.arrival.proofs.DraftLaws.{sited, serial_of}
 use Rattle.arrival.proofs.NewDarts.{all_new, dart_there}
 use Rattle.arrival.proofs.Nineteen.{is_numbered, vertices_fit, each_below}
 use Rattle.join.specs.Join.{Joins}

@@ -1,4 +1,6 @@
 // Receive, the paper's take: a transfer's volume joins the block. Nothing is written before the last question is answered.
+#![tactic(auto)]
+
 mod asks; // asks.rt: questions 17, 29 and 18 to 21
 
 ghost use Rattle.std.specs.Prelude.{◌≡◌, true, ◌≤◌, length, replicate};

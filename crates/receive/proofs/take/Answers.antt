@@ -195,5 +195,5 @@ returns-in-Served c =
       gives =
           λ t e w. served_image (limits_of c.args.limits) here.0 here.1 here.2
           (omega (arith, here.3.serial_size, (told_of w).few)) y t e w
-          (byte_list message (λ i. Fits-lt-pow (c.shared_slice_known-1.given i))) c.join.ensures;
+          (byte_list message (λ i. Fits-lt-pow (c.type_inv.message i))) c.join.ensures;
     }

@@ -32,12 +32,12 @@ returns-in_default-counted_part-2 c =
     (no_fourth fs _ (counted_there part2 c.in-Counted.is (c.counted_part.ensures fs z)) _ (counted_there part3 c.in-Counted-counted_part.is (c.counted_part-2.ensures fs z))
     (counted_missing (part4 fs) c.in_default-counted_part-2.is (c.counted_part-3.ensures fs z)))
 
-pub returns-then-fourth-s : goal.returns-then-fourth-s
-returns-then-fourth-s c =
+pub returns-then-last-s : goal.returns-then-last-s
+returns-then-last-s c =
     λ fs z. tail_more fs _ (counted_there part2 c.in-Counted.is (c.counted_part.ensures fs z)) _ (counted_there part3 c.in-Counted-counted_part.is (c.counted_part-2.ensures fs z))
-    _ (counted_there (part4 fs) c.in-Counted-counted_part-2.is (c.counted_part-3.ensures fs z)) c.if-fourth-s.true
+    _ (counted_there (part4 fs) c.in-Counted-counted_part-2.is (c.counted_part-3.ensures fs z)) c.if-last-s.true
 
 pub returns : goal.returns
 returns c =
     λ fs z. tail_read fs _ (counted_there part2 c.in-Counted.is (c.counted_part.ensures fs z)) _ (counted_there part3 c.in-Counted-counted_part.is (c.counted_part-2.ensures fs z))
-    _ (counted_there (part4 fs) c.in-Counted-counted_part-2.is (c.counted_part-3.ensures fs z)) c.if-fourth-s.false
+    _ (counted_there (part4 fs) c.in-Counted-counted_part-2.is (c.counted_part-3.ensures fs z)) c.if-last-s.false

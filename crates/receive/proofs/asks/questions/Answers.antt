@@ -45,7 +45,7 @@ new_serials-requires c =
         told.some_darts,
         told.few,
         told.points_fit,
-        serials_small (byte_list message (λ i. Fits-lt-pow (c.shared_slice_known-2-1.given i))) c.requires.block_value.3.1 c.requires.block_value.3.2,
+        serials_small (byte_list message (λ i. Fits-lt-pow (c.type_inv.message i))) c.requires.block_value.3.1 c.requires.block_value.3.2,
       );
     }
 
@@ -113,7 +113,7 @@ parts_right-right-requires c =
         omega (arith, c.if-limits-front.false, c.new_serials.auto, lent.ranks_long),
         lent.kinds_clear,
         lent.links_clear,
-        sender_small (byte_list message (λ i. Fits-lt-pow (c.shared_slice_known-2-1.given i))) c.requires.block_value.3.1 c.requires.block_value.3.2,
+        sender_small (byte_list message (λ i. Fits-lt-pow (c.type_inv.message i))) c.requires.block_value.3.1 c.requires.block_value.3.2,
         omega (arith, c.if-limits-front.false, lent.kinds_long),
         omega (arith, c.if-limits-front.false, lent.links_long),
       );
