@@ -11,6 +11,7 @@
 #include <stdio.h>
 #include <stdlib.h>
 #include <string.h>
+#include <sys/syscall.h>
 #include <sys/types.h>
 #include <time.h>
 #include <unistd.h>
@@ -94,7 +95,7 @@ int unlink(const char *path) {
 
 int clock_gettime(clockid_t clock, struct timespec *t) {
     static time_t now;
-    if (!getenv("SHORT_WAIT")) return REAL(clock_gettime)(clock, t);
+    if (!getenv("SHORT_WAIT")) return (int)syscall(SYS_clock_gettime, clock, t);
     t->tv_sec = ++now;
     t->tv_nsec = 0;
     return 0;

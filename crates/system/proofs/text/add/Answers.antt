@@ -1,4 +1,4 @@
-use Rattle.std.proofs.Common.{◌-◌, arith, length-set}
+use Rattle.std.proofs.Common.{arith, length-set}
 use Rattle.system.proofs.text.add.Goals as goal
 
 pub loop-i-preserved : goal.loop-i-preserved

@@ -1,5 +1,5 @@
 -- `system::text::word` meets its contract. The loop keeps `end` within the text; the measure is how many words are left. Assumes nothing.
-use Rattle.std.proofs.Common.{◌-◌, ◌≤◌, length}
+use Rattle.std.proofs.Common.{◌≤◌, length}
 use Rattle.system.proofs.text.word.Given as goal
 
 abbrev pub invariant-loop-left : goal.invariant-loop-left
