@@ -50,7 +50,7 @@ loop-d-smaller c =
 pub loop-d-preserved : goal.loop-d-preserved
 loop-d-preserved c =
     let none = donor_none c.args.viewers (oracle_of c.args.o) c.args.mesh.now c.loop-d.d c.from_donor.ensures c.in_default.is in
-    (omega (arith, c.from_donor.kept, c.loop-d.invariant.0), searching_none c.loop-d.invariant.1 c.loop-d-test.true none)
+    (omega (arith, c.from_donor.auto, c.loop-d.invariant.0), searching_none c.loop-d.invariant.1 c.loop-d-test.true none)
 
 pub overflow_cast-result : goal.overflow_cast-result
 overflow_cast-result c =
@@ -58,7 +58,7 @@ overflow_cast-result c =
 
 pub shape_of-sizes-in-loop-d : goal.shape_of-sizes-in-loop-d
 shape_of-sizes-in-loop-d c =
-    omega (arith, c.from_donor.kept, c.loop-d.invariant.0)
+    omega (arith, c.from_donor.auto, c.loop-d.invariant.0)
 
 pub returns-in-loop-d : goal.returns-in-loop-d
 returns-in-loop-d c =

@@ -63,7 +63,7 @@ pub loop-r-preserved : goal.loop-r-preserved
 loop-r-preserved c =
     let d = c.args.d in
     let mesh = c.args.mesh.now in (
-      omega (arith, c.between.kept, c.loop-r.invariant.0),
+      omega (arith, c.between.auto, c.loop-r.invariant.0),
       λ o n z. giving_none (c.loop-r.invariant.1 o n z) c.loop-r-test.true c.requires.sound_parts.0 c.requires.sound_parts.1
           (blocks_apart o mesh d c.loop-r.r (sym (gives_told o mesh n d c.loop-r.r c.requires.sound_parts.1 c.loop-r-test.true c.gives.ensures) ∙ c.if-not-gives.false))
           c.between.ensures.candidate c.in_default.is c.between.ensures.untried,
@@ -75,7 +75,7 @@ overflow_cast-result c =
 
 pub shape_of-sizes-in-loop-r : goal.shape_of-sizes-in-loop-r
 shape_of-sizes-in-loop-r c =
-    omega (arith, c.sizes_at.kept, c.loop-r.invariant.0, c.between.kept)
+    omega (arith, c.sizes_at.auto, c.loop-r.invariant.0, c.between.auto)
 
 pub returns-in-loop-r : goal.returns-in-loop-r
 returns-in-loop-r c =
@@ -88,7 +88,7 @@ returns-in-loop-r c =
 
 pub shape_of-sizes : goal.shape_of-sizes
 shape_of-sizes c =
-    omega (arith, c.sizes_at.kept, c.loop-r.invariant.0)
+    omega (arith, c.sizes_at.auto, c.loop-r.invariant.0)
 
 pub returns : goal.returns
 returns c =

@@ -18,7 +18,7 @@ receive_by-requires c =
 
 pub shape_of-block : goal.shape_of-block
 shape_of-block c =
-    omega (arith, c.receive_by.kept)
+    omega (arith, c.receive_by.auto)
 
 pub returns : goal.returns
 returns c =

@@ -115,13 +115,13 @@ loop-i-preserved c = (
   c.may_leave.ensures.again c.if-may_leave.false,
   record {
     sizes = length-set c.loop-i.sizes _ _ ∙ c.loop-i.invariant.2.sizes;
-    marks = omega (arith, c.may_leave.kept, c.loop-i.invariant.2.marks);
-    order = omega (arith, c.may_leave.kept, c.loop-i.invariant.2.order);
-    starts = omega (arith, c.may_leave.kept, c.loop-i.invariant.2.starts);
-    seen = omega (arith, c.may_leave.kept, c.loop-i.invariant.2.seen);
-    numbers = omega (arith, c.may_leave.kept, c.loop-i.invariant.2.numbers);
-    firsts = omega (arith, c.may_leave.kept, c.loop-i.invariant.2.firsts);
-    colours = omega (arith, c.may_leave.kept, c.loop-i.invariant.2.colours);
+    marks = omega (arith, c.may_leave.auto, c.loop-i.invariant.2.marks);
+    order = omega (arith, c.may_leave.auto, c.loop-i.invariant.2.order);
+    starts = omega (arith, c.may_leave.auto, c.loop-i.invariant.2.starts);
+    seen = omega (arith, c.may_leave.auto, c.loop-i.invariant.2.seen);
+    numbers = omega (arith, c.may_leave.auto, c.loop-i.invariant.2.numbers);
+    firsts = omega (arith, c.may_leave.auto, c.loop-i.invariant.2.firsts);
+    colours = omega (arith, c.may_leave.auto, c.loop-i.invariant.2.colours);
   },
 )
 
