@@ -1,5 +1,4 @@
 -- `saving::prepare::put_commit` meets its contract. Assumes nothing.
-use borrow.Author.Tests.{not-true, not-false}
 use Rattle.saving.proofs.Committing.{too_few, too_many, no_room, one_missing, commit_put}
 use Rattle.saving.proofs.prepare.put_commit.Goals as goal
 
@@ -17,8 +16,8 @@ returns-then-room-n c =
 
 pub returns-then-not-put_entries : goal.returns-then-not-put_entries
 returns-then-not-put_entries c =
-    one_missing _ _ c.if-k-lt1.false c.if-k-gt-BLOCKS.false c.put_entries.ensures (not-true _ c.if-not-put_entries.true)
+    one_missing _ _ c.if-k-lt1.false c.if-k-gt-BLOCKS.false c.put_entries.ensures c.if-not-put_entries.true
 
 pub returns : goal.returns
 returns c =
-    commit_put _ _ c.if-k-lt1.false c.if-k-gt-BLOCKS.false c.put_entries.ensures (not-false _ c.if-not-put_entries.false) c.if-room-n.false c.put_bytes.ensures
+    commit_put _ _ c.if-k-lt1.false c.if-k-gt-BLOCKS.false c.put_entries.ensures c.if-not-put_entries.false c.if-room-n.false c.put_bytes.ensures
