@@ -8,7 +8,7 @@ use lib.Dec.{leb, ltb, eqb}
 use lib.ListN.{length, get_or, drop, length-map}
 use lib.Seq.{get_or-take, get_or-drop}
 use mathlib.Core.Logic.{inl}
-use borrow.Author.Tests.{le-leb, lt-leb, leb-true, leb-false, ltb-true, eqb-true, not-true, not-false}
+use borrow.Author.Tests.{le-leb, lt-leb, leb-true, leb-false, ltb-true, eqb-true, not-true}
 use Rattle.model.specs.Lists.{all, any, keep, tab, concat_map, first_no}
 use Rattle.model.specs.Values.{Block, no_block, Limits, is_viewer, limits_in}
 use Rattle.model.specs.Sound.{block_at, numbered_from, blocks_right, volume_limit}
@@ -17,7 +17,7 @@ use Rattle.model.specs.Departure.{departure_checks}
 use Rattle.model.specs.Image.{words, column, block_in, dart_in, holds_block}
 use Rattle.model.specs.Balance.{Oracle, Move, level, blocked, move, picked, counts, may_give, recipients, candidates, can_move, first_or, is_level, next_of}
 use Rattle.model.specs.Calls.{served, memories}
-use Rattle.laws.proofs.Tests.{by_cases, and_left, and_right, same_truth}
+use Rattle.laws.proofs.Tests.{by_cases, and_left, and_right}
 use Rattle.laws.proofs.Members.{keep_le, keep_map, keep_twice, keep_cong}
 use Rattle.laws.proofs.Tables.{length_tab, getD_tab, tab_any, any_tab, tab_all, all_tab}
 use Rattle.memory.specs.Header.{limits_of}
@@ -352,18 +352,18 @@ module _ (viewers : ℕ) (o : Oracle) (mesh : List ℕ) {cs : List ℕ} (C : Cel
   level_here : (b : Bool) → is_level (tab f k) ≡ b → is_level (counts o (mesh_in mesh)) ≡ b
   level_here b e = ap is_level (counts_are o mesh) ∙ e
 
-  pub nobody_gives : {r : Bool} → r ≡ some_gives → not r ≡ true → served level ≡ served (next_of (limits_in viewers) o (mesh_in mesh))
+  pub nobody_gives : {r : Bool} → r ≡ some_gives → r ≡ false → served level ≡ served (next_of (limits_in viewers) o (mesh_in mesh))
   nobody_gives {r} e h = ap served (sym (next_is viewers o mesh ∙ level_if (is_level (counts o (mesh_in mesh))) (all_moves viewers o mesh) (level_here true (is_level_if none))
       (all_are ∙ none_from is_donor (moves_from viewers o mesh) (λ b. b) k (λ d l t. nothing_from d (sym (donor_told d l refl) ∙ none_gives none d l)))))
     where
       none : some_gives ≡ false
-      none = sym e ∙ not-true r h
+      none = sym e ∙ h
 
       level_if : (b : Bool) (l : List Move) → b ≡ true → l ≡ [] → first_or (cond b level blocked) l ≡ level
       level_if b l e q = rw (e, q) refl
 
-  pub somebody_gives : {r : Bool} → r ≡ some_gives → not r ≡ false → served (first_or blocked (all_moves viewers o mesh)) ≡ served (next_of (limits_in viewers) o (mesh_in mesh))
-  somebody_gives {r} e h = ap served (sym (next_is viewers o mesh ∙ ap (λ (b : Bool). first_or (cond b level blocked) (all_moves viewers o mesh)) (level_here false (not_level_if (sym e ∙ not-false r h)))))
+  pub somebody_gives : {r : Bool} → r ≡ some_gives → r ≡ true → served (first_or blocked (all_moves viewers o mesh)) ≡ served (next_of (limits_in viewers) o (mesh_in mesh))
+  somebody_gives {r} e h = ap served (sym (next_is viewers o mesh ∙ ap (λ (b : Bool). first_or (cond b level blocked) (all_moves viewers o mesh)) (level_here false (not_level_if (sym e ∙ h)))))
 
   -- THE LOOP over donors
   pub donor_found : {d to serial : ℕ} {w : Found} → Searching is_donor (moves_from viewers o mesh) k d → d < k → is_donor d ≡ true

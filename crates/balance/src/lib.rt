@@ -1,4 +1,6 @@
 // The next move of a mesh: which volume goes from which block to which, of those that have at least two picked volumes fewer.
+#![tactic(auto)]
+
 pub mod surplus; // surplus.rt: counts, mean and surpluses, and which block may give to which
 pub mod leaving; // leaving.rt: which picked volumes of a block may go
 pub mod nextmove; // nextmove.rt: the questions of a whole mesh and an oracle, then its next move

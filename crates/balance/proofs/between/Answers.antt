@@ -21,4 +21,5 @@ first_leaving-requires c =
 
 pub returns : goal.returns
 returns c =
-    between_there c.args.sizes.now c.part_of.ensures c.left_for-left.ensures c.first_leaving.ensures.candidate c.first_leaving.ensures.untried
+    let b = between_there c.args.sizes.now c.part_of.ensures c.left_for-left.ensures c.first_leaving.ensures.candidate c.first_leaving.ensures.untried in
+    record { candidate = b.0; untried = b.1 }

@@ -1,4 +1,3 @@
-use Prim.Native.Nat.{◌-◌}
 use mathlib.Core.Path.{refl, sym, ◌∙◌}
 use Rattle.oracle.specs.Oracle.{oracle_of}
 use Rattle.balance.proofs.Searches.{searching_start, searching_skip, searching_none}

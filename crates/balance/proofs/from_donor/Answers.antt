@@ -1,4 +1,3 @@
-use Prim.Native.Nat.{◌-◌}
 use mathlib.Core.Path.{refl, sym, ◌∙◌}
 use Rattle.oracle.specs.Oracle.{oracle_of}
 use Rattle.balance.proofs.MovesLaws.{giving_start, giving_skip, giving_none, giving_found, giving_end, counted_small, gives_told, blocks_apart}

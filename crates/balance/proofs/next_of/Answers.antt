@@ -21,6 +21,11 @@ overflow_cast-mean c =
     let sound = sound_parts c.args.mesh.now c.requires.0 c.requires.1 in
     omega (arith, sound.few)
 
+pub nonzero_div-mean : goal.nonzero_div-mean
+nonzero_div-mean c =
+    let sound = sound_parts c.args.mesh.now c.requires.0 c.requires.1 in
+    omega (arith, sound.some)
+
 pub less_mean-surplus-requires : goal.less_mean-surplus-requires
 less_mean-surplus-requires c =
     let sound = sound_parts c.args.mesh.now c.requires.0 c.requires.1 in

@@ -1,4 +1,3 @@
-use Prim.Native.Nat.{◌-◌}
 use Rattle.balance.proofs.SurplusLaws.{filling_start, filling_next, filled}
 use native.Mathlib.Omega.{arith}
 use Rattle.balance.proofs.surplus.counts.Goals as goal

@@ -1,4 +1,3 @@
-use Prim.Native.Nat.{◌-◌}
 use Rattle.balance.proofs.SurplusLaws.{lowest_start, lowest_new, lowest_same, lowest_end}
 use native.Mathlib.Omega.{arith}
 use Rattle.balance.proofs.surplus.least.Goals as goal

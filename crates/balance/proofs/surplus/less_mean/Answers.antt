@@ -1,4 +1,3 @@
-use Prim.Native.Nat.{◌-◌}
 use mathlib.Core.Path.{◌∙◌}
 use mir.ValLaws.{to_z-of_z}
 use mir.Syntax.{w32}
@@ -45,4 +44,4 @@ loop-i-preserved c =
 
 pub returns : goal.returns
 returns c =
-    surpluses_told c.args.t1 c.args.k c.args.mean c.loop-i.invariant c.loop-i-test.false
+    surpluses_told c.args.c c.args.k c.args.mean c.loop-i.invariant c.loop-i-test.false

@@ -1,4 +1,3 @@
-use Prim.Native.Nat.{◌-◌}
 use mathlib.Core.Path.{sym, ◌∙◌}
 use Rattle.balance.proofs.SurplusLaws.{seeking_start, seeking_next, sought, sought_all}
 use native.Mathlib.Omega.{arith}

@@ -1,4 +1,3 @@
-use Prim.Native.Nat.{◌-◌}
 use Rattle.balance.proofs.SurplusLaws.{summing_start, summing_next, summed}
 use native.Mathlib.Omega.{arith}
 use Rattle.balance.proofs.surplus.total.Goals as goal
