@@ -40,8 +40,8 @@ module _ (out : List ℕ) (darts : ℕ) {n : ℕ} {nx op : ℕ → ℕ} (w : Who
   pub taken : length (take darts out) ≡ darts
   taken = length-take-le darts out long
 
-  pub whole-few : darts ≤ room
-  whole-few = omega (arith, taken, w.few)
+  pub whole_few : darts ≤ room
+  whole_few = omega (arith, taken, w.few)
 
   pub whole_below : (k : ℕ) → k < darts → get_or out k 0 < n
   whole_below k j =
@@ -49,11 +49,11 @@ module _ (out : List ℕ) (darts : ℕ) {n : ℕ} {nx op : ℕ → ℕ} (w : Who
       omega (arith, get_or-take darts out k 0 j)
 
 module _ (m : List ℕ) (s : ℕ) {look : Found} (ten : look ≡ place_in (column m 0) (count_in m) s) where
-  pub held-no : look ≡ Nothing → held (darts_in m) s ≡ false
-  held-no e = held_nothing m s (sym ten ∙ e)
+  pub held_no : look ≡ Nothing → held (darts_in m) s ≡ false
+  held_no e = held_nothing m s (sym ten ∙ e)
 
-  pub held-yes : Sited m → {at : Place} → look ≡ At at → HeldAt m s at.0
-  held-yes site e =
+  pub held_yes : Sited m → {at : Place} → look ≡ At at → HeldAt m s at.0
+  held_yes site e =
       let found = sym ten ∙ e in
       let there = place_at (column m 0) (count_in m) s found in
       record { below = there.0; serial_is = there.1; is_held = held_at m s site.ascends found }
@@ -61,35 +61,40 @@ module _ (m : List ℕ) (s : ℕ) {look : Found} (ten : look ≡ place_in (colum
 -- of the volume of the dart at place p
 module _ {m : List ℕ} {p : ℕ} (site : Sited m) (below : p < count_in m) where
   -- 11
-  pub within-no : (most : ℕ) → most < length (places_in (count_in m) (volume_of m p)) → leb (length (volume_in (darts_in m) (column m 0 p))) most ≡ false
-  within-no most few = lt-leb (length (volume_in (darts_in m) (column m 0 p))) most (omega (arith, volume_size site p below))
+  pub within_no : (most : ℕ) → most < length (places_in (count_in m) (volume_of m p)) → leb (length (volume_in (darts_in m) (column m 0 p))) most ≡
+      false
+  within_no most few = lt-leb (length (volume_in (darts_in m) (column m 0 p))) most (omega (arith, volume_size site p below))
 
-  pub within-yes : {most t : ℕ} {marks out : List ℕ} → VolumeWalked m p t marks out → t ≤ most → leb (length (volume_in (darts_in m) (column m 0 p))) most ≡ true
-  within-yes {most} w few = le-leb (length (volume_in (darts_in m) (column m 0 p))) most (omega (arith, volume_size site p below, w.size_is))
+  pub within_yes : {most t : ℕ} {marks out : List ℕ} → VolumeWalked m p t marks out → t ≤ most → leb (length (volume_in (darts_in m) (column m 0 p)))
+      most ≡ true
+  within_yes {most} w few = le-leb (length (volume_in (darts_in m) (column m 0 p))) most (omega (arith, volume_size site p below, w.size_is))
 
-  module _ {marks : List ℕ} (mk : Marked (volume_of m p) marks) {out starts : List ℕ} {darts count : ℕ} (o : InOrder (faces_at m marks) out starts darts count) where
+  module _ {marks : List ℕ} (mk : Marked (volume_of m p) marks) {out starts : List ℕ} {darts count : ℕ}
+      (o : InOrder (faces_at m marks) out starts darts count) where
     pub as_many : {t : ℕ} {out' : List ℕ} → VolumeWalked m p t marks out' → darts ≡ t
     as_many w = out_count site p below mk o ∙ volume_size site p below ∙ sym w.size_is
 
     -- what 12 and `unmark-both` ask of the list
-    pub list-ready : (darts ≤ room) × (darts ≤ length out) × ((k : ℕ) → k < darts → get_or out k 0 < count_in m)
-    list-ready =
+    pub list_ready : (darts ≤ room) × (darts ≤ length out) × ((k : ℕ) → k < darts → get_or out k 0 < count_in m)
+    list_ready =
         let l = site.linked in
         (omega (arith, out_few l below mk o, l.few), out_long l below mk o, out_below l below mk o)
 
-    pub unmark-both-ready : {seen : List ℕ} → Marked (take darts out) seen → count_in m ≤ length marks → count_in m ≤ length seen
+    pub unmark_both_ready : {seen : List ℕ} → Marked (take darts out) seen → count_in m ≤ length marks → count_in m ≤ length seen
         → (darts ≤ room) × (darts ≤ length out) × ((k : ℕ) → k < darts → (get_or out k 0 < length marks) × (get_or out k 0 < length seen))
         × Marked (take darts out) marks × Marked (take darts out) seen
-    unmark-both-ready sm lm ls =
-        let ready = list-ready in
+    unmark_both_ready sm lm ls =
+        let ready = list_ready in
         (ready.0, ready.1, (λ k j. (omega (arith, ready.2 k j), omega (arith, ready.2 k j))), out_marked site.linked below mk o, sm)
 
     -- 12
-    pub sewn-answer : all (λ x. not (is_sewn_into (volume_in (darts_in m) (column m 0 p)) (third_at (darts_in m) x))) (volume_in (darts_in m) (column m 0 p))
+    pub sewn_answer : all (λ x. not (is_sewn_into (volume_in (darts_in m) (column m 0 p)) (third_at (darts_in m) x)))
+        (volume_in (darts_in m) (column m 0 p))
         ≡ not (any (sewn_in m marks) (take darts out))
-    sewn-answer = question_12 site p below mk ∙ ap not (sym (out_any site.linked below mk o (sewn_in m marks)))
+    sewn_answer = question_12 site p below mk ∙ ap not (sym (out_any site.linked below mk o (sewn_in m marks)))
 
     -- 13
-    pub pairs-told : {numbers firsts : List ℕ} {vs : ℕ} → Numbered (column m 1) (column m 2) (take darts out) numbers firsts vs
-        → pairs_once (vertex_pairs (next_in (darts_in m)) (opposite_in (darts_in m)) (volume_in (darts_in m) (column m 0 p))) ≡ ends_once (column m 1) (column m 2) numbers firsts vs
-    pairs-told nb = sym (pairs_answer site p below mk o nb)
+    pub pairs_told : {numbers firsts : List ℕ} {vs : ℕ} → Numbered (column m 1) (column m 2) (take darts out) numbers firsts vs
+        → pairs_once (vertex_pairs (next_in (darts_in m)) (opposite_in (darts_in m)) (volume_in (darts_in m) (column m 0 p))) ≡ ends_once (column m 1)
+        (column m 2) numbers firsts vs
+    pairs_told nb = sym (pairs_answer site p below mk o nb)

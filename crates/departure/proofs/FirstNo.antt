@@ -26,7 +26,7 @@ use Rattle.departure.specs.Asked.{VolumeDeparts, Leaves, VolumeLeaves, faces_at,
 use Rattle.departure.specs.declared.Leaving.{Leaving}
 use Rattle.departure.specs.declared.Leaving.TheVariants.{Volume, Refused}
 use Rattle.departure.specs.Questions.{VolumeWalked, PairsAsked, Unpaired, sewn_away}
-use Rattle.departure.proofs.Answers.{HeldAt, within-no, within-yes, as_many, sewn-answer, pairs-told}
+use Rattle.departure.proofs.Answers.{HeldAt, within_no, within_yes, as_many, sewn_answer, pairs_told}
 
 -- what a sound block's header says
 pub ranges_in : (m : List ℕ) → holds_block m ≡ true → Ranges rack (block_in m)
@@ -76,31 +76,31 @@ VolumeNo most m p q = refused q ≡ answered (volume_checks most m p)
 module _ (most : ℕ) (m : List ℕ) (site : Sited m) {p : ℕ} (below : p < count_in m) where
   pub first_11 : most < length (places_in (count_in m) (volume_of m p)) → VolumeNo most m p 11
   unfolding departure_checks
-  first_11 many = alone _ (ask_no refl (within-no site below most many) refl)
+  first_11 many = alone _ (ask_no refl (within_no site below most many) refl)
 
   module _ {t : ℕ} {marks walked : List ℕ} (w : VolumeWalked m p t marks walked) (few : t ≤ most)
       {out starts : List ℕ} {darts count : ℕ} (o : InOrder (faces_at m marks) out starts darts count) where
     is_11 : leb (length (volume_in (darts_in m) (column m 0 p))) most ≡ true
-    is_11 = within-yes site below w few
+    is_11 = within_yes site below w few
 
     darts_few : darts ≤ most
     darts_few = omega (arith, as_many site below w.volume_marked o w, few)
 
     pub first_12 : not (any (sewn_in m marks) (take darts out)) ≡ false → VolumeNo most m p 12
     unfolding departure_checks
-    first_12 fails = alone _ (ask_yes is_11 (ask_no refl (sewn-answer site below w.volume_marked o ∙ fails) refl))
+    first_12 fails = alone _ (ask_yes is_11 (ask_no refl (sewn_answer site below w.volume_marked o ∙ fails) refl))
 
     module _ (apart : not (any (sewn_in m marks) (take darts out)) ≡ true) where
       is_12 : all (λ x. not (is_sewn_into (volume_in (darts_in m) (column m 0 p)) (third_at (darts_in m) x))) (volume_in (darts_in m) (column m 0 p)) ≡ true
-      is_12 = sewn-answer site below w.volume_marked o ∙ apart
+      is_12 = sewn_answer site below w.volume_marked o ∙ apart
 
       pub first_13 : {numbers firsts : List ℕ} → Unpaired m out darts numbers firsts → VolumeNo most m p 13
       unfolding departure_checks
-      first_13 fails = alone _ (ask_yes is_11 (ask_yes is_12 (ask_no refl (pairs-told site below w.volume_marked o fails.numbering ∙ fails.twice) refl)))
+      first_13 fails = alone _ (ask_yes is_11 (ask_yes is_12 (ask_no refl (pairs_told site below w.volume_marked o fails.numbering ∙ fails.twice) refl)))
 
       module _ {numbers firsts : List ℕ} {vs : ℕ} (pairs : PairsAsked m out darts numbers firsts vs) where
         is_13 : pairs_once (vertex_pairs (next_in (darts_in m)) (opposite_in (darts_in m)) (volume_in (darts_in m) (column m 0 p))) ≡ true
-        is_13 = pairs-told site below w.volume_marked o pairs.numbering ∙ pairs.once
+        is_13 = pairs_told site below w.volume_marked o pairs.numbering ∙ pairs.once
 
         is_14 : ltb (get_or m 1 0 + length (sewn_faces (darts_in m) (column m 0 p))) (2 ^ 32) ≡ ltb (get_or m 1 0 + sewn_away m marks) (2 ^ 32)
         is_14 = ap (λ (k : ℕ). ltb (get_or m 1 0 + k) (2 ^ 32)) (question_14 site p below w.volume_marked)

@@ -60,13 +60,7 @@ pub fn dmap_read_pages(pages: &[u8], block: &mut [u64]) -> u32
     answers::answer_number(readpages::read_pages(pages, block))
 }
 
-pub fn dmap_send(
-    block: &[u64],
-    to: u64,
-    serial: u64,
-    outbox: &mut [u8],
-    written: &mut u64,
-) -> u32
+pub fn dmap_send(block: &[u64], to: u64, serial: u64, outbox: &mut [u8], written: &mut u64) -> u32
     ensures { WrittenCounted (calls.send rack block.now to serial outbox.old) written.old result outbox.new written.new }
 {
     tell_written(send::send(block, to, serial, outbox), written)

@@ -21,5 +21,6 @@ first_leaving-requires c =
 
 pub returns : goal.returns
 returns c =
-    let b = between_there c.args.sizes.now c.part_of.ensures c.left_for-left.ensures c.first_leaving.ensures.candidate c.first_leaving.ensures.untried in
+    let b = between_there c.args.sizes.now c.part_of.ensures c.left_for-left.ensures c.first_leaving.ensures.candidate
+    c.first_leaving.ensures.untried in
     record { candidate = b.0; untried = b.1 }

@@ -40,7 +40,10 @@ loop-d-preserved-then-not-gives c =
 
 pub from_donor-requires : goal.from_donor-requires
 from_donor-requires c =
-    record { sound_parts = (c.requires.0, c.loop-d-test.true, omega (arith, c.loop-d.invariant.0, c.requires.3 c.loop-d.d c.loop-d-test.true)); cells_counted = c.requires.1 }
+    record {
+      sound_parts = (c.requires.0, c.loop-d-test.true, omega (arith, c.loop-d.invariant.0, c.requires.3 c.loop-d.d c.loop-d-test.true));
+      cells_counted = c.requires.1;
+    }
 
 pub loop-d-smaller : goal.loop-d-smaller
 loop-d-smaller c =

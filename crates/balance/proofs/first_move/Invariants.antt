@@ -11,7 +11,8 @@ use Rattle.balance.proofs.first_move.Given as goal
 
 abbrev pub invariant-loop-d : goal.invariant-loop-d
 invariant-loop-d l =
-    (length l.sizes ≡ length l.initial.sizes) × Searching (λ b. may_give (picked_count (oracle_of l.o) l.mesh b) l.low) (moves_from l.viewers (oracle_of l.o) l.mesh) (block_count l.mesh) l.d
+    (length l.sizes ≡ length l.initial.sizes) × Searching (λ b. may_give (picked_count (oracle_of l.o) l.mesh b) l.low)
+    (moves_from l.viewers (oracle_of l.o) l.mesh) (block_count l.mesh) l.d
 
 abbrev pub decreases-loop-d : goal.decreases-loop-d
 decreases-loop-d l =

@@ -51,8 +51,12 @@ loop-r-preserved-then-not-gives c =
 
 pub between-requires : goal.between-requires
 between-requires c =
-    let o = c.args.o in
-    (c.requires.sound_parts.0, c.requires.sound_parts.1, c.loop-r-test.true, (c.loop-r.invariant.1 (oracle_of o) c.requires.cells_counted c.sizes_at.ensures).untried.len)
+    let o = c.args.o in (
+      c.requires.sound_parts.0,
+      c.requires.sound_parts.1,
+      c.loop-r-test.true,
+      (c.loop-r.invariant.1 (oracle_of o) c.requires.cells_counted c.sizes_at.ensures).untried.len,
+    )
 
 pub loop-r-smaller : goal.loop-r-smaller
 loop-r-smaller c =
@@ -81,8 +85,11 @@ returns-in-loop-r c =
     let o = c.args.o in
     let d = c.args.d in
     let mesh = c.args.mesh.now in
-    let gives = sym (gives_told (oracle_of o) mesh c.requires.cells_counted d c.loop-r.r c.requires.sound_parts.1 c.loop-r-test.true c.gives.ensures) ∙ c.if-not-gives.false in
-    giving_found (c.loop-r.invariant.1 (oracle_of o) c.requires.cells_counted c.sizes_at.ensures) c.loop-r-test.true c.requires.sound_parts.0 c.requires.sound_parts.1
+    let gives = sym
+    (gives_told (oracle_of o) mesh c.requires.cells_counted d c.loop-r.r c.requires.sound_parts.1 c.loop-r-test.true c.gives.ensures) ∙
+    c.if-not-gives.false in
+    giving_found (c.loop-r.invariant.1 (oracle_of o) c.requires.cells_counted c.sizes_at.ensures) c.loop-r-test.true c.requires.sound_parts.0
+    c.requires.sound_parts.1
     (blocks_apart (oracle_of o) mesh d c.loop-r.r gives) c.between.ensures.candidate c.in-Volume.is gives
 
 pub shape_of-sizes : goal.shape_of-sizes

@@ -11,7 +11,8 @@ use Rattle.balance.proofs.from_donor.Given as goal
 
 abbrev pub invariant-loop-r : goal.invariant-loop-r
 invariant-loop-r l =
-    (length l.sizes ≡ length l.initial.sizes) × ((o : Oracle) → CellsCounted o l.mesh l.counts → Sizes o (part l.mesh l.d) l.initial.sizes → Giving l.viewers o l.mesh l.d l.sizes l.r)
+    (length l.sizes ≡ length l.initial.sizes) ×
+    ((o : Oracle) → CellsCounted o l.mesh l.counts → Sizes o (part l.mesh l.d) l.initial.sizes → Giving l.viewers o l.mesh l.d l.sizes l.r)
 
 abbrev pub decreases-loop-r : goal.decreases-loop-r
 decreases-loop-r l =

@@ -23,4 +23,5 @@ first_move-requires c =
 
 pub returns : goal.returns
 returns c =
-    c.first_move.ensures ∙ somebody_gives c.args.viewers (oracle_of c.args.o) c.args.mesh.now c.requires.1 c.least-low.ensures c.some_gives.ensures c.if-not-some_gives.false
+    c.first_move.ensures ∙ somebody_gives c.args.viewers (oracle_of c.args.o) c.args.mesh.now c.requires.1 c.least-low.ensures c.some_gives.ensures
+    c.if-not-some_gives.false

@@ -15,24 +15,34 @@ returns-then-not-mesh_lent c =
     (size_no c.args.viewers c.args.mesh.now c.args.scratch.now c.mesh_lent.ensures c.if-not-mesh_lent.true, refl)
 
 pub returns-then-not-all_sound : goal.returns-then-not-all_sound
-returns-then-not-all_sound c =
-    (image_no c.args.viewers c.args.mesh.now c.args.scratch.now (said_yes c.mesh_lent.ensures c.if-not-mesh_lent.false) c.all_sound.ensures c.if-not-all_sound.true, refl)
+returns-then-not-all_sound c = (
+  image_no c.args.viewers c.args.mesh.now c.args.scratch.now (said_yes c.mesh_lent.ensures c.if-not-mesh_lent.false) c.all_sound.ensures
+      c.if-not-all_sound.true,
+  refl,
+)
 
 pub returns-then-not-blocks_right : goal.returns-then-not-blocks_right
 returns-then-not-blocks_right c =
     let mesh = c.args.mesh.now in
-    let scratch = c.args.scratch.now in
-    (numbers_no c.args.viewers mesh scratch (said_yes c.mesh_lent.ensures c.if-not-mesh_lent.false) (said_yes c.all_sound.ensures c.if-not-all_sound.false) c.blocks_right.ensures c.if-not-blocks_right.true, refl)
+    let scratch = c.args.scratch.now in (
+      numbers_no c.args.viewers mesh scratch (said_yes c.mesh_lent.ensures c.if-not-mesh_lent.false)
+          (said_yes c.all_sound.ensures c.if-not-all_sound.false) c.blocks_right.ensures c.if-not-blocks_right.true,
+      refl,
+    )
 
 pub serials_distinct-requires : goal.serials_distinct-requires
-serials_distinct-requires c =
-    (said_yes c.mesh_lent.ensures c.if-not-mesh_lent.false, parts_hold _ c.args.mesh.now (said_yes c.all_sound.ensures c.if-not-all_sound.false), said_yes c.blocks_right.ensures c.if-not-blocks_right.false)
+serials_distinct-requires c = (
+  said_yes c.mesh_lent.ensures c.if-not-mesh_lent.false,
+  parts_hold _ c.args.mesh.now (said_yes c.all_sound.ensures c.if-not-all_sound.false),
+  said_yes c.blocks_right.ensures c.if-not-blocks_right.false,
+)
 
 pub returns-then-not-serials_distinct : goal.returns-then-not-serials_distinct
 returns-then-not-serials_distinct c =
     let mesh = c.args.mesh.now in
     let scratch = c.args.scratch.now in (
-      serials_no c.args.viewers mesh scratch (said_yes c.mesh_lent.ensures c.if-not-mesh_lent.false) (said_yes c.all_sound.ensures c.if-not-all_sound.false)
+      serials_no c.args.viewers mesh scratch (said_yes c.mesh_lent.ensures c.if-not-mesh_lent.false)
+          (said_yes c.all_sound.ensures c.if-not-all_sound.false)
           (said_yes c.blocks_right.ensures c.if-not-blocks_right.false) c.serials_distinct.ensures.0 c.if-not-serials_distinct.true,
       c.serials_distinct.ensures.1,
     )
@@ -42,7 +52,8 @@ paired-p-requires c =
     let mesh = c.args.mesh.now in (
       subst (λ (x : List ℕ). mesh_lent scratch_entries mesh x ≡ true) (sym c.serials_distinct.ensures.1)
           (said_yes c.mesh_lent.ensures c.if-not-mesh_lent.false),
-      record { images = parts_hold _ mesh (said_yes c.all_sound.ensures c.if-not-all_sound.false); numbered = said_yes c.blocks_right.ensures c.if-not-blocks_right.false },
+      record
+          { images = parts_hold _ mesh (said_yes c.all_sound.ensures c.if-not-all_sound.false); numbered = said_yes c.blocks_right.ensures c.if-not-blocks_right.false },
     )
 
 pub returns-in-Unpaired : goal.returns-in-Unpaired

@@ -28,7 +28,12 @@ message_order-order-requires c =
     let mk = c.volume-size.ensures.marked in
     let listed = c.volume-size.ensures.listed in
     record {
-      linked = (linked, omega (arith, linked.few, length-replicate {A = ℕ} room 0), closed_next linked low mk, c.volume-size.ensures.count ∙ sym (ap length (marked_places mk (get_or m 2 0))));
+      linked = (
+        linked,
+        omega (arith, linked.few, length-replicate {A = ℕ} room 0),
+        closed_next linked low mk,
+        c.volume-size.ensures.count ∙ sym (ap length (marked_places mk (get_or m 2 0))),
+      );
       size_nonzero = (
         listed_some _ listed (volume_linked linked low).here,
         listed_marked mk listed,
@@ -45,8 +50,12 @@ number_vertices-requires c =
     let mk = c.volume-size.ensures.marked in
     let o = c.message_order-order.ensures.ordered in
     let few = out_few linked low mk o in
-    record { linked = (linked, omega (arith, few, linked.few), out_long linked low mk o, out_below linked low mk o); n_in_bounds = (zeros_long _ room refl linked.few, omega (arith, few, c.requires.2)) }
+    record {
+      linked = (linked, omega (arith, few, linked.few), out_long linked low mk o, out_below linked low mk o);
+      n_in_bounds = (zeros_long _ room refl linked.few, omega (arith, few, c.requires.2));
+    }
 
 pub returns : goal.returns
 returns c =
-    cornered c.args.block.now c.requires.0 c.args.p.0 c.requires.1 c.volume-size.ensures.marked c.message_order-order.ensures.ordered c.number_vertices.ensures
+    cornered c.args.block.now c.requires.0 c.args.p.0 c.requires.1 c.volume-size.ensures.marked c.message_order-order.ensures.ordered
+    c.number_vertices.ensures

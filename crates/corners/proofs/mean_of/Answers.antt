@@ -38,8 +38,12 @@ corners_at-count-requires c =
 
 pub sum_at-sum-requires : goal.sum_at-sum-requires
 sum_at-sum-requires c =
-    let m = c.args.block.now in
-    (walkable m (said_yes c.is_sound.ensures c.if-not-is_sound.false), c.corners_at-count.ensures.size, c.corners_at-count.ensures.few, c.corners_at-count.ensures.below)
+    let m = c.args.block.now in (
+      walkable m (said_yes c.is_sound.ensures c.if-not-is_sound.false),
+      c.corners_at-count.ensures.size,
+      c.corners_at-count.ensures.few,
+      c.corners_at-count.ensures.below,
+    )
 
 pub returns : goal.returns
 returns c =

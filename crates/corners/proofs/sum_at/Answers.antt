@@ -24,7 +24,8 @@ loop-i-smaller c =
 pub loop-i-preserved : goal.loop-i-preserved
 loop-i-preserved c = (
   omega arith,
-  sum_next (λ p. (dart_in c.args.block.now p).point) c.args.places.now c.loop-i.i (omega arith) c.loop-i.invariant.1 c.point_at.ensures c.plus-sum.ensures,
+  sum_next (λ p. (dart_in c.args.block.now p).point) c.args.places.now c.loop-i.i (omega arith) c.loop-i.invariant.1 c.point_at.ensures
+      c.plus-sum.ensures,
 )
 
 pub returns : goal.returns

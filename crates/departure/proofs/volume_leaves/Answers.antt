@@ -11,7 +11,7 @@ use Rattle.cells.proofs.SewnLaws.{marked_places}
 use Rattle.cells.proofs.FaceSerials.{closed_next}
 use Rattle.cells.proofs.VolumeReady.{out_few, out_whole}
 use Rattle.departure.specs.Asked.{VolumeLeaves}
-use Rattle.departure.proofs.Answers.{as_many, list-ready, unmark-both-ready}
+use Rattle.departure.proofs.Answers.{as_many, list_ready, unmark_both_ready}
 use Rattle.departure.proofs.FirstNo.{ranges_in, first_11, first_12, first_13, first_14, departs}
 use Rattle.departure.proofs.Told.{walked_told, large_told, paired_told, unpaired_told, counter_told, full_told}
 use native.Mathlib.Omega.{arith}
@@ -49,7 +49,15 @@ message_order-order-requires c =
     let l = site.linked in
     let listed = walked.0.listed in
     let clear = c.requires.block_in_bounds in
-    record { linked = (l, omega (arith, clear.0, c.volume_within.auto), closed_next l (below) mk, walked.0.size_is ∙ sym (ap length (marked_places mk (count_in m)))); size_nonzero = (listed_some _ listed (volume_linked l (below)).here, listed_marked mk listed, c.requires.block_in_bounds_2.1, clear.2, clear.3) }
+    record {
+      linked = (
+        l,
+        omega (arith, clear.0, c.volume_within.auto),
+        closed_next l (below) mk,
+        walked.0.size_is ∙ sym (ap length (marked_places mk (count_in m))),
+      );
+      size_nonzero = (listed_some _ listed (volume_linked l (below)).here, listed_marked mk listed, c.requires.block_in_bounds_2.1, clear.2, clear.3);
+    }
 
 pub none_sewn_within-requires : goal.none_sewn_within-requires
 none_sewn_within-requires c =
@@ -58,7 +66,10 @@ none_sewn_within-requires c =
     let below = c.requires.block_value.2 in
     let walked = walked_told c.args.limits.volume m _ _ _ c.volume_within.ensures c.in-Volume.is in
     let mk = walked.0.volume_marked in
-    record { linked = (site.linked, omega (arith, c.requires.block_in_bounds.0, c.volume_within.auto)); darts_le_room = list-ready site below mk c.message_order-order.ensures.ordered }
+    record {
+      linked = (site.linked, omega (arith, c.requires.block_in_bounds.0, c.volume_within.auto));
+      darts_le_room = list_ready site below mk c.message_order-order.ensures.ordered;
+    }
 
 pub unmark_both-requires : goal.unmark_both-requires
 unmark_both-requires c =
@@ -68,7 +79,8 @@ unmark_both-requires c =
     let walked = walked_told c.args.limits.volume m _ _ _ c.volume_within.ensures c.in-Volume.is in
     let mk = walked.0.volume_marked in
     let clear = c.requires.block_in_bounds in
-    unmark-both-ready site below mk c.message_order-order.ensures.ordered c.message_order-order.ensures.seen (omega (arith, clear.0, c.volume_within.auto)) (omega (arith, clear.2, c.message_order-order.auto))
+    unmark_both_ready site below mk c.message_order-order.ensures.ordered c.message_order-order.ensures.seen
+    (omega (arith, clear.0, c.volume_within.auto)) (omega (arith, clear.2, c.message_order-order.auto))
 
 pub returns-then-not-none_sewn_within : goal.returns-then-not-none_sewn_within
 unfolding VolumeLeaves
@@ -78,7 +90,11 @@ returns-then-not-none_sewn_within c =
     let most = c.args.limits.volume in
     let below = c.requires.block_value.2 in
     let walked = walked_told most m _ _ _ c.volume_within.ensures c.in-Volume.is in
-    record { answer = first_12 most m site below walked.0 walked.1 c.message_order-order.ensures.ordered (said_no c.none_sewn_within.ensures c.if-not-none_sewn_within.true); clear = c.unmark_both.ensures }
+    record {
+      answer = first_12 most m site below walked.0 walked.1 c.message_order-order.ensures.ordered
+          (said_no c.none_sewn_within.ensures c.if-not-none_sewn_within.true);
+      clear = c.unmark_both.ensures;
+    }
 
 pub pairs_once-requires : goal.pairs_once-requires
 pairs_once-requires c =
@@ -88,7 +104,7 @@ pairs_once-requires c =
     let walked = walked_told c.args.limits.volume m _ _ _ c.volume_within.ensures c.in-Volume.is in
     let mk = walked.0.volume_marked in
     let o = c.message_order-order.ensures.ordered in
-    let ready = list-ready site below mk o in
+    let ready = list_ready site below mk o in
     record {
       linked = (site.linked, out_whole site.linked (below) mk o, ready.1);
       block_in_bounds = (
@@ -106,7 +122,8 @@ unmark_both-requires-in_default-pairs_once c =
     let walked = walked_told c.args.limits.volume m _ _ _ c.volume_within.ensures c.in-Volume.is in
     let mk = walked.0.volume_marked in
     let clear = c.requires.block_in_bounds in
-    unmark-both-ready site below mk c.message_order-order.ensures.ordered c.message_order-order.ensures.seen (omega (arith, clear.0, c.volume_within.auto)) (omega (arith, clear.2, c.message_order-order.auto))
+    unmark_both_ready site below mk c.message_order-order.ensures.ordered c.message_order-order.ensures.seen
+    (omega (arith, clear.0, c.volume_within.auto)) (omega (arith, clear.2, c.message_order-order.auto))
 
 pub shape_of-marks-in_default-pairs_once : goal.shape_of-marks-in_default-pairs_once
 shape_of-marks-in_default-pairs_once c =
@@ -125,7 +142,8 @@ returns-in_default-pairs_once c =
     let below = c.requires.block_value.2 in
     let walked = walked_told most m _ _ _ c.volume_within.ensures c.in-Volume.is in
     record {
-      answer = first_13 most m site below walked.0 walked.1 c.message_order-order.ensures.ordered (said_yes c.none_sewn_within.ensures c.if-not-none_sewn_within.false)
+      answer = first_13 most m site below walked.0 walked.1 c.message_order-order.ensures.ordered
+          (said_yes c.none_sewn_within.ensures c.if-not-none_sewn_within.false)
           (unpaired_told m _ _ c.pairs_once.ensures c.in_default-pairs_once.is);
       clear = c.unmark_both-in_default-pairs_once.ensures;
     }
@@ -134,7 +152,10 @@ pub counter_fits-requires : goal.counter_fits-requires
 counter_fits-requires c =
     let m = c.args.block.now in
     let site = sited m c.requires.block_value.0 in
-    record { linked = (site.linked, omega (arith, c.requires.block_in_bounds.0, c.volume_within.auto), (ranges_in m c.requires.block_value.0).counter_small); in_order = c.message_order-order.ensures.ordered }
+    record {
+      linked = (site.linked, omega (arith, c.requires.block_in_bounds.0, c.volume_within.auto), (ranges_in m c.requires.block_value.0).counter_small);
+      in_order = c.message_order-order.ensures.ordered;
+    }
 
 pub unmark_both-requires-in_default-counter_fits : goal.unmark_both-requires-in_default-counter_fits
 unmark_both-requires-in_default-counter_fits c =
@@ -144,7 +165,8 @@ unmark_both-requires-in_default-counter_fits c =
     let walked = walked_told c.args.limits.volume m _ _ _ c.volume_within.ensures c.in-Volume.is in
     let mk = walked.0.volume_marked in
     let clear = c.requires.block_in_bounds in
-    unmark-both-ready site below mk c.message_order-order.ensures.ordered c.message_order-order.ensures.seen (omega (arith, clear.0, c.volume_within.auto)) (omega (arith, clear.2, c.message_order-order.auto))
+    unmark_both_ready site below mk c.message_order-order.ensures.ordered c.message_order-order.ensures.seen
+    (omega (arith, clear.0, c.volume_within.auto)) (omega (arith, clear.2, c.message_order-order.auto))
 
 pub shape_of-marks-in_default-counter_fits : goal.shape_of-marks-in_default-counter_fits
 shape_of-marks-in_default-counter_fits c =
@@ -171,7 +193,8 @@ returns-in_default-counter_fits c =
     let below = c.requires.block_value.2 in
     let walked = walked_told most m _ _ _ c.volume_within.ensures c.in-Volume.is in
     record {
-      answer = first_14 most m site below walked.0 walked.1 c.message_order-order.ensures.ordered (said_yes c.none_sewn_within.ensures c.if-not-none_sewn_within.false)
+      answer = first_14 most m site below walked.0 walked.1 c.message_order-order.ensures.ordered
+          (said_yes c.none_sewn_within.ensures c.if-not-none_sewn_within.false)
           (paired_told m _ _ c.pairs_once.ensures c.in-Once.is) (full_told m _ c.counter_fits.ensures c.in_default-counter_fits.is);
       clear = c.unmark_both-in_default-counter_fits.ensures;
     }
@@ -194,7 +217,9 @@ returns c =
     let walked = walked_told most m _ _ _ c.volume_within.ensures c.in-Volume.is in
     let counted = counter_told m _ c.counter_fits.ensures c.in-Faces.is in
     record {
-      answer = departs most m site below walked.0 walked.1 c.message_order-order.ensures.ordered (said_yes c.none_sewn_within.ensures c.if-not-none_sewn_within.false)
-          (paired_told m _ _ c.pairs_once.ensures c.in-Once.is) counted.0 counted.1 c.requires.block_value.1 (omega (arith, c.requires.block_in_bounds.0, c.volume_within.auto));
+      answer = departs most m site below walked.0 walked.1 c.message_order-order.ensures.ordered
+          (said_yes c.none_sewn_within.ensures c.if-not-none_sewn_within.false)
+          (paired_told m _ _ c.pairs_once.ensures c.in-Once.is) counted.0 counted.1 c.requires.block_value.1
+          (omega (arith, c.requires.block_in_bounds.0, c.volume_within.auto));
       clear = tt;
     }

@@ -18,7 +18,8 @@ returns-then-answer-ne-ANSWER c =
     let x1 = c.args.x1 in
     let y1 = c.args.y1 in
     let z1 = c.args.z1 in
-    not_sized answer scratch (next_move_by_number (limits_in c.args.viewers) mesh oracle axis (point_words x0 y0 z0) (point_words x1 y1 z1) scratch) c.if-answer-ne-ANSWER.true
+    not_sized answer scratch (next_move_by_number (limits_in c.args.viewers) mesh oracle axis (point_words x0 y0 z0) (point_words x1 y1 z1) scratch)
+    c.if-answer-ne-ANSWER.true
 
 pub tell_balance-requires : goal.tell_balance-requires
 tell_balance-requires c =

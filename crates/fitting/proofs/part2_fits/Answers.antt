@@ -51,7 +51,10 @@ locate-requires c =
 pub part2_right-requires : goal.part2_right-requires
 part2_right-requires c =
     let of-arrays = c.requires.k_in_bounds in
-    record { sewable = sewable_at c.requires.part2ready.0 c.locate.ensures (omega (arith, c.requires.part2ready.1, c.locate.auto, of-arrays.3)); k_in_bounds = (of-arrays.4, of-arrays.5, c.requires.by_index.1, c.requires.part2ready.2, c.requires.part2ready.3) }
+    record {
+      sewable = sewable_at c.requires.part2ready.0 c.locate.ensures (omega (arith, c.requires.part2ready.1, c.locate.auto, of-arrays.3));
+      k_in_bounds = (of-arrays.4, of-arrays.5, c.requires.by_index.1, c.requires.part2ready.2, c.requires.part2ready.3);
+    }
 
 pub shape_of-kinds : goal.shape_of-kinds
 shape_of-kinds c =

@@ -84,7 +84,8 @@ part2_fits-requires c =
     let ready_made = c.requires.by_index_2 in
     let new = c.requires.by_index.2 in
     let few = few_second c.requires.block_value.0 new c.critical_right.ensures c.if-not-critical_right.false
-    (omega (arith, c.critical_right.auto, of-arrays.0)) (omega (arith, c.critical_right.auto, of-arrays.1)) c.requires.block_value.2 c.requires.block_value.3
+    (omega (arith, c.critical_right.auto, of-arrays.0)) (omega (arith, c.critical_right.auto, of-arrays.1)) c.requires.block_value.2
+    c.requires.block_value.3
     c.requires.block_value.6 in
     record {
       part2ready = (
@@ -161,5 +162,6 @@ pub returns : goal.returns
 returns c =
     let of-arrays = c.requires.darts_in_bounds in
     λ v x n. parted c.requires.block_value.0 n c.critical_right.ensures c.if-not-critical_right.false
-    (omega (arith, c.critical_right.auto, of-arrays.0)) (omega (arith, c.critical_right.auto, of-arrays.1)) c.requires.block_value.2 c.requires.block_value.3
+    (omega (arith, c.critical_right.auto, of-arrays.0)) (omega (arith, c.critical_right.auto, of-arrays.1)) c.requires.block_value.2
+    c.requires.block_value.3
     c.requires.block_value.6 c.part2_fits.ensures

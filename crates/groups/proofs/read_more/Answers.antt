@@ -34,7 +34,8 @@ overflow_mul-low c =
 
 pub overflow_add-low-in-loop-p : goal.overflow_add-low-in-loop-p
 overflow_add-low-in-loop-p c =
-    omega (arith, scale_fits c.loop-p.invariant, c.loop-p.invariant.small, group_fits c.loop-p.invariant (c.wide-b.result - 128) (omega (arith, c.wide-b.ensures.1)))
+    omega
+    (arith, scale_fits c.loop-p.invariant, c.loop-p.invariant.small, group_fits c.loop-p.invariant (c.wide-b.result - 128) (omega (arith, c.wide-b.ensures.1)))
 
 pub overflow_mul-scale-in-loop-p : goal.overflow_mul-scale-in-loop-p
 overflow_mul-scale-in-loop-p c =

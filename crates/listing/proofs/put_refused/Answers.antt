@@ -17,4 +17,5 @@ pub returns : goal.returns
 unfolding bytes
 returns c =
     let d = ended_most 10 c.args.number 10 (decimal_ten c.args.number (omega arith)) in
-    rw (ended_line (bytes "refused ") c.args.number) (printed (stored_then c.put_text-past_text.ensures c.put_number.ensures) (omega (arith, c.requires)))
+    rw (ended_line (bytes "refused ") c.args.number)
+    (printed (stored_then c.put_text-past_text.ensures c.put_number.ensures) (omega (arith, c.requires)))

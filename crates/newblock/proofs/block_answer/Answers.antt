@@ -13,8 +13,13 @@ returns-then-not-coordinates_finite c =
 
 pub points_agree-requires : goal.points_agree-requires
 points_agree-requires c =
-    let linked = links_told (block_in c.args.block.now) (ap answer-of (sym c.in-Served.is) ∙ c.link_answer.ensures) in
-    (c.requires.block_in_bounds.0, c.requires.block_in_bounds.1, said_yes c.coordinates_finite.ensures c.if-not-coordinates_finite.false, linked.0, linked.1)
+    let linked = links_told (block_in c.args.block.now) (ap answer-of (sym c.in-Served.is) ∙ c.link_answer.ensures) in (
+      c.requires.block_in_bounds.0,
+      c.requires.block_in_bounds.1,
+      said_yes c.coordinates_finite.ensures c.if-not-coordinates_finite.false,
+      linked.0,
+      linked.1,
+    )
 
 pub returns-then-not-points_agree : goal.returns-then-not-points_agree
 returns-then-not-points_agree c =

@@ -33,9 +33,14 @@ put_block-requires c =
     let ready = raw_ready lim _ block size c.read_raw.ensures c.requires.block_le_room.0 c.if-not-read_raw.false bytes in
     let marks = c.requires.block_in_bounds in
     let keys = c.requires.block_in_bounds_2 in
-    record { block_len = (size ∙ sym long, ready); made_in_bounds = (omega (arith, ready.fits, long, marks.0), marks.1); made_in_bounds_2 = (omega (arith, ready.fits, long, keys.0), omega (arith, ready.fits, long, keys.1), keys.2) }
+    record {
+      block_len = (size ∙ sym long, ready);
+      made_in_bounds = (omega (arith, ready.fits, long, marks.0), marks.1);
+      made_in_bounds_2 = (omega (arith, ready.fits, long, keys.0), omega (arith, ready.fits, long, keys.1), keys.2);
+    }
 
 pub returns : goal.returns
 returns c =
     let bytes = byte_list c.args.file.now (λ i. (c.type_inv.file i).fits) in
-    block_put (limits_of c.args.limits) _ _ (c.if-block-words.false ∙ c.words.ensures) c.read_raw.ensures c.requires.block_le_room.0 c.if-not-read_raw.false bytes c.put_block.ensures
+    block_put (limits_of c.args.limits) _ _ (c.if-block-words.false ∙ c.words.ensures) c.read_raw.ensures c.requires.block_le_room.0
+    c.if-not-read_raw.false bytes c.put_block.ensures

@@ -13,7 +13,11 @@ use Rattle.readpages.proofs.read_pages.Goals as goal
 pub read_pages_by-requires : goal.read_pages_by-requires
 read_pages_by-requires c =
     let few = rack_fits _ c.rack.ensures in
-    record { block_le_room = (few, ap (λ (l : Limits). replicate (words_of l) 0) (sym c.rack.ensures)); block_in_bounds = (few, getD_zeros 4096); block_in_bounds_2 = (few, few, refl) }
+    record {
+      block_le_room = (few, ap (λ (l : Limits). replicate (words_of l) 0) (sym c.rack.ensures));
+      block_in_bounds = (few, getD_zeros 4096);
+      block_in_bounds_2 = (few, few, refl);
+    }
 
 pub returns : goal.returns
 returns c =

@@ -14,7 +14,11 @@ pub receive_by-requires : goal.receive_by-requires
 receive_by-requires c =
     let few = rack_fits _ c.rack.ensures in
     let volume = ap (λ (l : Limits). l.volume_darts) c.rack.ensures in
-    record { block_le_room = (few, record { vertex_size = refl; serial_size = refl; starts_size = refl; sizes_size = refl }); lent_arrays = zeros_lent 512 room (omega (arith, volume)) few (omega arith) (omega arith); block_in_bounds = (zeros_long _ room refl few, zeros_clear room refl, refl) }
+    record {
+      block_le_room = (few, record { vertex_size = refl; serial_size = refl; starts_size = refl; sizes_size = refl });
+      lent_arrays = zeros_lent 512 room (omega (arith, volume)) few (omega arith) (omega arith);
+      block_in_bounds = (zeros_long _ room refl few, zeros_clear room refl, refl);
+    }
 
 pub shape_of-block : goal.shape_of-block
 shape_of-block c =

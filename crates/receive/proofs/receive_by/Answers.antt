@@ -39,7 +39,10 @@ take-requires c =
     let block = c.args.block.now in
     let size = c.if-block-words.false ∙ c.words.ensures in
     let sound = image_by_size lim block c.requires.block_le_room.0 size ∙ said_yes c.is_sound_by.ensures c.if-not-is_sound_by.false in
-    record { block_le_room = (c.requires.block_le_room.0, size, sound, c.message_in.ensures.sides, outline_of c.in-Transfer.is c.message_in.ensures); lent_arrays = lent_still c.requires.lent_arrays (omega (arith, c.is_sound_by.auto)) (omega (arith, c.is_sound_by.auto)) }
+    record {
+      block_le_room = (c.requires.block_le_room.0, size, sound, c.message_in.ensures.sides, outline_of c.in-Transfer.is c.message_in.ensures);
+      lent_arrays = lent_still c.requires.lent_arrays (omega (arith, c.is_sound_by.auto)) (omega (arith, c.is_sound_by.auto));
+    }
 
 pub shape_of-block-in-Transfer : goal.shape_of-block-in-Transfer
 shape_of-block-in-Transfer c =

@@ -17,7 +17,10 @@ use Rattle.receive.proofs.take.Goals as goal
 pub questions-requires : goal.questions-requires
 questions-requires c =
     let here = c.requires.block_le_room in
-    record { block_value = (here.2, omega (arith, (sited c.args.block.now here.2).linked.size, here.1), here.3, here.4); lent_arrays = c.requires.lent_arrays }
+    record {
+      block_value = (here.2, omega (arith, (sited c.args.block.now here.2).linked.size, here.1), here.3, here.4);
+      lent_arrays = c.requires.lent_arrays;
+    }
 
 pub join-requires : goal.join-requires
 join-requires c =

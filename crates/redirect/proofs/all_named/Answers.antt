@@ -8,7 +8,8 @@ pub returns-then-not-order : goal.returns-then-not-order
 returns-then-not-order c =
     let block = c.args.block.now in
     let from = c.args.from in
-    not_apart block from _ c.requires.block_value.4 c.read_codes.ensures c.order.ensures (omega (arith, c.read_codes.auto, c.order.auto, c.requires.count_in_bounds.0)) c.if-not-order.true
+    not_apart block from _ c.requires.block_value.4 c.read_codes.ensures c.order.ensures
+    (omega (arith, c.read_codes.auto, c.order.auto, c.requires.count_in_bounds.0)) c.if-not-order.true
 
 pub each_named-requires : goal.each_named-requires
 each_named-requires c =
@@ -19,7 +20,8 @@ each_named-requires c =
         c.requires.block_value.0,
         c.requires.block_value.1,
         c.requires.block_value.2,
-        apart_ready block from _ c.requires.block_value.4 c.read_codes.ensures c.order.ensures (omega (arith, c.read_codes.auto, c.order.auto, c.requires.count_in_bounds.0)) c.if-not-order.false,
+        apart_ready block from _ c.requires.block_value.4 c.read_codes.ensures c.order.ensures
+            (omega (arith, c.read_codes.auto, c.order.auto, c.requires.count_in_bounds.0)) c.if-not-order.false,
       );
       n_in_bounds = c.requires.n_in_bounds;
     }

@@ -48,7 +48,10 @@ redirect_update-requires c =
         omega (arith, fits, c.if-block-words.false, c.words.ensures, table.2),
         table.3,
       );
-      block_in_bounds_2 = (omega (arith, fits, c.if-block-words.false, c.words.ensures, codes.0, c.is_sound_by.auto), omega (arith, fits, c.if-block-words.false, c.words.ensures, codes.1, c.is_sound_by.auto));
+      block_in_bounds_2 = (
+        omega (arith, fits, c.if-block-words.false, c.words.ensures, codes.0, c.is_sound_by.auto),
+        omega (arith, fits, c.if-block-words.false, c.words.ensures, codes.1, c.is_sound_by.auto),
+      );
     }
 
 pub returns-in-Transfer : goal.returns-in-Transfer
@@ -75,7 +78,8 @@ returns-in-Update c =
     let lim = limits_of c.args.limits in
     let block = c.args.block.now in
     let size = c.if-block-words.false ∙ c.words.ensures in
-    update_told lim block _ size (said_yes c.is_sound_by.ensures c.if-not-is_sound_by.false) c.in-Update.is c.received.ensures c.redirect_update.ensures
+    update_told lim block _ size (said_yes c.is_sound_by.ensures c.if-not-is_sound_by.false) c.in-Update.is c.received.ensures
+    c.redirect_update.ensures
 
 pub returns-in-Nothing : goal.returns-in-Nothing
 returns-in-Nothing c =

@@ -29,11 +29,30 @@ returns-then-darts-u c =
 pub all_named-requires : goal.all_named-requires
 all_named-requires c =
     let few = (sited c.args.block.now c.requires.block_value.0).linked.few in
-    record { block_value = (c.requires.block_value.0, refl, c.requires.block_value.1.from_small, c.requires.block_value.1.labels_within, omega (arith, c.if-darts-u.false, few)); n_in_bounds = (c.requires.block_in_bounds.0, c.requires.block_in_bounds.1, omega (arith, c.if-darts-u.false, c.requires.block_in_bounds.2), c.requires.block_in_bounds.3); count_in_bounds = (omega (arith, c.if-darts-u.false, c.requires.block_in_bounds_2.0), omega (arith, c.if-darts-u.false, c.requires.block_in_bounds_2.1)) }
+    record {
+      block_value = (
+        c.requires.block_value.0,
+        refl,
+        c.requires.block_value.1.from_small,
+        c.requires.block_value.1.labels_within,
+        omega (arith, c.if-darts-u.false, few),
+      );
+      n_in_bounds = (
+        c.requires.block_in_bounds.0,
+        c.requires.block_in_bounds.1,
+        omega (arith, c.if-darts-u.false, c.requires.block_in_bounds.2),
+        c.requires.block_in_bounds.3,
+      );
+      count_in_bounds = (
+        omega (arith, c.if-darts-u.false, c.requires.block_in_bounds_2.0),
+        omega (arith, c.if-darts-u.false, c.requires.block_in_bounds_2.1),
+      );
+    }
 
 pub returns-then-not-all_named : goal.returns-then-not-all_named
 returns-then-not-all_named c =
-    redirects_unnamed _ c.requires.block_value.0 c.for_here.ensures c.if-not-for_here.false c.neither.ensures c.all_named.ensures c.if-not-all_named.true
+    redirects_unnamed _ c.requires.block_value.0 c.for_here.ensures c.if-not-for_here.false c.neither.ensures c.all_named.ensures
+    c.if-not-all_named.true
 
 pub critical_with-word-requires : goal.critical_with-word-requires
 critical_with-word-requires c =
@@ -46,5 +65,6 @@ rewrite-requires c =
 
 pub returns : goal.returns
 returns c =
-    redirects_served _ c.requires.block_value.0 c.for_here.ensures c.if-not-for_here.false c.neither.ensures c.all_named.ensures c.if-not-neither.false c.if-not-all_named.false
+    redirects_served _ c.requires.block_value.0 c.for_here.ensures c.if-not-for_here.false c.neither.ensures c.all_named.ensures
+    c.if-not-neither.false c.if-not-all_named.false
     c.requires.block_value.1 (rewritten_word c.critical_with-word.ensures c.rewrite.ensures)

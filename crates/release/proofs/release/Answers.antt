@@ -14,7 +14,12 @@ release_by-requires c =
     let few = rack_fits _ c.rack.ensures in
     let volume = ap (λ (l : Limits). l.volume_darts) c.rack.ensures in
     let clear = zeros_clear room refl in
-    record { block_le_room = (few, omega (arith, volume), omega (arith, volume)); block_in_bounds = (few, few, few, clear, refl); block_in_bounds_2 = (few, clear, few, clear); block_in_bounds_3 = (few, few, few, few) }
+    record {
+      block_le_room = (few, omega (arith, volume), omega (arith, volume));
+      block_in_bounds = (few, few, few, clear, refl);
+      block_in_bounds_2 = (few, clear, few, clear);
+      block_in_bounds_3 = (few, few, few, few);
+    }
 
 pub returns : goal.returns
 returns c =

@@ -7,7 +7,12 @@ use Rattle.release.proofs.release_asked.Goals as goal
 
 pub leaves-requires : goal.leaves-requires
 leaves-requires c =
-    record { block_value = (c.requires.block_len.2, c.requires.block_len.3); block_in_bounds = c.requires.block_in_bounds; block_in_bounds_2 = c.requires.block_in_bounds_2; block_in_bounds_3 = c.requires.block_in_bounds_3 }
+    record {
+      block_value = (c.requires.block_len.2, c.requires.block_len.3);
+      block_in_bounds = c.requires.block_in_bounds;
+      block_in_bounds_2 = c.requires.block_in_bounds_2;
+      block_in_bounds_3 = c.requires.block_in_bounds_3;
+    }
 
 pub let_go-requires : goal.let_go-requires
 let_go-requires c =
@@ -33,7 +38,8 @@ returns-in-Refused c =
     let most = c.args.limits.volume in
     let to = c.args.to in
     let serial = c.args.serial in
-    volume_refused block to serial (limits_of c.args.limits) c.requires.block_len.0 c.requires.block_len.1 (refused_told most block to serial _ _ _ _ _ c.leaves.ensures.answer c.in-Refused.is)
+    volume_refused block to serial (limits_of c.args.limits) c.requires.block_len.0 c.requires.block_len.1
+    (refused_told most block to serial _ _ _ _ _ c.leaves.ensures.answer c.in-Refused.is)
 
 pub returns-in-Volume : goal.returns-in-Volume
 returns-in-Volume c =

@@ -24,7 +24,8 @@ returns-then-finish c =
     let to = c.args.to in
     let serial = c.args.serial in
     let sent = c.args.sent.now in
-    deliver_finished c.args.viewers mesh from to serial sent c.first_message-first.result c.first_message-first.ensures c.receive_at.result c.receive_at.ensures
+    deliver_finished c.args.viewers mesh from to serial sent c.first_message-first.result c.first_message-first.ensures c.receive_at.result
+    c.receive_at.ensures
     c.in-Served.is c.finish.ensures c.if-finish.true
 
 pub returns-in-Refused : goal.returns-in-Refused
@@ -34,7 +35,8 @@ returns-in-Refused c =
     let to = c.args.to in
     let serial = c.args.serial in
     let sent = c.args.sent.now in
-    deliver_refused c.args.viewers mesh from to serial sent c.first_message-first.result c.first_message-first.ensures c.receive_at.result c.receive_at.ensures _ c.in-Refused.is
+    deliver_refused c.args.viewers mesh from to serial sent c.first_message-first.result c.first_message-first.ensures c.receive_at.result
+    c.receive_at.ensures _ c.in-Refused.is
 
 pub returns-else-finish : goal.returns-else-finish
 returns-else-finish c =
@@ -43,5 +45,6 @@ returns-else-finish c =
     let to = c.args.to in
     let serial = c.args.serial in
     let sent = c.args.sent.now in
-    deliver_unfinished c.args.viewers mesh from to serial sent c.first_message-first.result c.first_message-first.ensures c.receive_at.result c.receive_at.ensures
+    deliver_unfinished c.args.viewers mesh from to serial sent c.first_message-first.result c.first_message-first.ensures c.receive_at.result
+    c.receive_at.ensures
     c.in-Served.is c.finish.ensures c.if-finish.false

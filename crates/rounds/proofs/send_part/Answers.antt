@@ -10,6 +10,10 @@ pub overflow_add-end : goal.overflow_add-end
 overflow_add-end c =
     omega (arith, c.own_words.ensures, own_fits c.args.viewers c.args.b)
 
+pub slice_bounds-send-end : goal.slice_bounds-send-end
+slice_bounds-send-end c =
+    omega (arith, c.own_words.ensures, own_fits c.args.viewers c.args.b)
+
 pub returns : goal.returns
 returns c =
     let m = c.args.mesh.now in

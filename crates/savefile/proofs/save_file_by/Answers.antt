@@ -20,17 +20,20 @@ returns-then-not-is_sound_by c =
 pub long_enough-requires : goal.long_enough-requires
 long_enough-requires c =
     let lim = limits_of c.args.limits in
-    image_by_size lim c.args.block.now c.requires.block_le_room.0 (c.if-block-words.false ∙ c.words.ensures) ∙ said_yes c.is_sound_by.ensures c.if-not-is_sound_by.false
+    image_by_size lim c.args.block.now c.requires.block_le_room.0 (c.if-block-words.false ∙ c.words.ensures) ∙ said_yes c.is_sound_by.ensures
+    c.if-not-is_sound_by.false
 
 pub returns-then-not-long_enough : goal.returns-then-not-long_enough
 returns-then-not-long_enough c =
     let lim = limits_of c.args.limits in
-    refused_output lim _ _ (c.if-block-words.false ∙ c.words.ensures) (said_yes c.is_sound_by.ensures c.if-not-is_sound_by.false) (said_no (c.long_enough.ensures lim) c.if-not-long_enough.true)
+    refused_output lim _ _ (c.if-block-words.false ∙ c.words.ensures) (said_yes c.is_sound_by.ensures c.if-not-is_sound_by.false)
+    (said_no (c.long_enough.ensures lim) c.if-not-long_enough.true)
 
 pub put_file-n-requires : goal.put_file-n-requires
 put_file-n-requires c =
     let lim = limits_of c.args.limits in
-    image_by_size lim c.args.block.now c.requires.block_le_room.0 (c.if-block-words.false ∙ c.words.ensures) ∙ said_yes c.is_sound_by.ensures c.if-not-is_sound_by.false
+    image_by_size lim c.args.block.now c.requires.block_le_room.0 (c.if-block-words.false ∙ c.words.ensures) ∙ said_yes c.is_sound_by.ensures
+    c.if-not-is_sound_by.false
 
 pub returns : goal.returns
 returns c =

@@ -55,7 +55,8 @@ visit-end-requires-in-loop-head-2 c =
     let opposite_is = c.along-b.ensures ∙ ap (column block 2) c.place_at-p.ensures in
     let q =
     going_mid _ _ _ _ _ (volume_linked c.requires.0 c.requires.1) c.requires.2
-    (c.loop-head.invariant _ c.requires.1 _ _ c.requires.2 c.visit-end.ensures) c.requires.0.next_within c.requires.0.opposite_within c.loop-head-test.true
+    (c.loop-head.invariant _ c.requires.1 _ _ c.requires.2 c.visit-end.ensures) c.requires.0.next_within c.requires.0.opposite_within
+    c.loop-head-test.true
     next_is c.visit-end-in-loop-head.ensures in
     let walk = c.loop-head.invariant _ c.requires.1 _ _ c.requires.2 c.visit-end.ensures in
     let few = c.requires.0.few in
@@ -91,7 +92,8 @@ returns c =
     let l = c.requires.0 in
     let v = volume_linked l c.requires.1 in
     record {
-      marking = going_marks _ _ _ _ _ v c.requires.2 (c.loop-head.invariant _ c.requires.1 _ _ c.requires.2 c.visit-end.ensures) c.loop-head-test.false;
+      marking = going_marks _ _ _ _ _ v c.requires.2 (c.loop-head.invariant _ c.requires.1 _ _ c.requires.2 c.visit-end.ensures)
+          c.loop-head-test.false;
       added = going_added _ _ _ _ _ v c.requires.2 (c.loop-head.invariant _ c.requires.1 _ _ c.requires.2 c.visit-end.ensures) c.loop-head-test.false
           (volume_away l c.requires.1 c.requires.2 c.requires.3) (volume_below l c.requires.1);
     }

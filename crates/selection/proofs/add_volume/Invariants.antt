@@ -9,7 +9,8 @@ use Rattle.selection.proofs.add_volume.Given as goal
 
 abbrev pub invariant-loop-head : goal.invariant-loop-head
 invariant-loop-head l =
-    (s : ℕ) → s < l.n → (m o : List ℕ) → Marking l.n (column l.block 1) (column l.block 2) m o l.tail → Visited s m o l.tail l.initial.marks l.initial.order l.initial.end
+    (s : ℕ) → s < l.n → (m o : List ℕ) → Marking l.n (column l.block 1) (column l.block 2) m o l.tail → Visited s m o l.tail l.initial.marks
+    l.initial.order l.initial.end
     → Going l.n (column l.block 1) (column l.block 2) s (volume_of l.block s) m o l.tail l.marks l.order l.end l.head
 
 abbrev pub decreases-loop-head : goal.decreases-loop-head

@@ -15,8 +15,10 @@ loop-p-smaller-then-s-eq0 c =
 
 pub loop-p-preserved-then-s-eq0 : goal.loop-p-preserved-then-s-eq0
 loop-p-preserved-then-s-eq0 c =
-    let sizes = c.args.sizes.now in
-    (omega (arith, c.loop-p-test.true), count_no (λ x. ltb 0 (get_or sizes x 0)) c.loop-p.p c.loop-p.c c.loop-p.invariant.1 (is_zero sizes c.loop-p.p _ refl c.if-s-eq0.true))
+    let sizes = c.args.sizes.now in (
+      omega (arith, c.loop-p-test.true),
+      count_no (λ x. ltb 0 (get_or sizes x 0)) c.loop-p.p c.loop-p.c c.loop-p.invariant.1 (is_zero sizes c.loop-p.p _ refl c.if-s-eq0.true),
+    )
 
 pub overflow_add-c : goal.overflow_add-c
 overflow_add-c c =
@@ -28,8 +30,10 @@ loop-p-smaller c =
 
 pub loop-p-preserved : goal.loop-p-preserved
 loop-p-preserved c =
-    let sizes = c.args.sizes.now in
-    (omega (arith, c.loop-p-test.true), count_yes (λ x. ltb 0 (get_or sizes x 0)) c.loop-p.p c.loop-p.c c.loop-p.invariant.1 (not_zero sizes c.loop-p.p _ refl c.if-s-eq0.false))
+    let sizes = c.args.sizes.now in (
+      omega (arith, c.loop-p-test.true),
+      count_yes (λ x. ltb 0 (get_or sizes x 0)) c.loop-p.p c.loop-p.c c.loop-p.invariant.1 (not_zero sizes c.loop-p.p _ refl c.if-s-eq0.false),
+    )
 
 pub returns : goal.returns
 returns c =

@@ -9,8 +9,12 @@ bounds-block-2 c =
     omega arith
 
 pub loop-p-init : goal.loop-p-init
-loop-p-init c =
-    (measuring_start _ _ _ _ _ c.requires.walkable.1 c.requires.block_in_bounds.0 c.requires.block_in_bounds.1 c.requires.walkable.2, refl, refl, refl)
+loop-p-init c = (
+  measuring_start _ _ _ _ _ c.requires.walkable.1 c.requires.block_in_bounds.0 c.requires.block_in_bounds.1 c.requires.walkable.2,
+  refl,
+  refl,
+  refl,
+)
 
 pub measure-m-requires : goal.measure-m-requires
 measure-m-requires c =

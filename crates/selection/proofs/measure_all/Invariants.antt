@@ -8,7 +8,8 @@ use Rattle.selection.proofs.measure_all.Given as goal
 
 abbrev pub invariant-loop-p : goal.invariant-loop-p
 invariant-loop-p l =
-    Measuring (oracle_of l.o) l.block l.sizes l.marks l.order l.tail l.p × (length l.sizes ≡ length l.initial.sizes) × (length l.order ≡ length l.initial.order) × (length l.marks ≡ length l.initial.marks)
+    Measuring (oracle_of l.o) l.block l.sizes l.marks l.order l.tail l.p × (length l.sizes ≡ length l.initial.sizes) ×
+    (length l.order ≡ length l.initial.order) × (length l.marks ≡ length l.initial.marks)
 
 abbrev pub decreases-loop-p : goal.decreases-loop-p
 decreases-loop-p l =

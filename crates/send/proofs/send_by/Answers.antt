@@ -22,7 +22,8 @@ is_sound_by-requires c =
 
 pub returns-then-not-is_sound_by : goal.returns-then-not-is_sound_by
 returns-then-not-is_sound_by c =
-    refused_image _ _ _ _ (limits_of c.args.limits) (c.if-block-words.false ∙ c.words.ensures) (said_no c.is_sound_by.ensures c.if-not-is_sound_by.true)
+    refused_image _ _ _ _ (limits_of c.args.limits) (c.if-block-words.false ∙ c.words.ensures)
+    (said_no c.is_sound_by.ensures c.if-not-is_sound_by.true)
 
 pub send_volume-requires : goal.send_volume-requires
 send_volume-requires c =
@@ -33,7 +34,13 @@ send_volume-requires c =
     let few = count_fits lim block image in
     let marks = c.requires.block_in_bounds_2 in
     let places = c.requires.block_in_bounds_3 in
-    record { block_len = (size, image, image_by_size lim block c.requires.block_le_room.0 size ∙ image, c.requires.block_le_room.1); block_in_bounds = (omega (arith, few, size, marks.0), marks.1, omega (arith, few, size, marks.2), marks.3); block_in_bounds_2 = (omega (arith, few, size, places.0), omega (arith, few, size, places.1), omega (arith, few, size, places.2)); block_in_bounds_3 = (omega (arith, few, size, places.3), c.requires.block_le_room.2); labels_value = (refl, refl) }
+    record {
+      block_len = (size, image, image_by_size lim block c.requires.block_le_room.0 size ∙ image, c.requires.block_le_room.1);
+      block_in_bounds = (omega (arith, few, size, marks.0), marks.1, omega (arith, few, size, marks.2), marks.3);
+      block_in_bounds_2 = (omega (arith, few, size, places.0), omega (arith, few, size, places.1), omega (arith, few, size, places.2));
+      block_in_bounds_3 = (omega (arith, few, size, places.3), c.requires.block_le_room.2);
+      labels_value = (refl, refl);
+    }
 
 pub returns : goal.returns
 returns c =

@@ -46,10 +46,15 @@ returns-then-not-darts_right c =
 pub far_right-requires : goal.far_right-requires
 far_right-requires c =
     let block = c.args.block.now in
-    let few = header_few block c.args.limits.block c.header_right.ensures c.if-not-header_right.false in
-    (omega (arith, few, c.requires.0), omega (arith, c.if-block-n.false), c.darts_right.ensures.0 c.if-not-darts_right.false, omega (arith, few, c.requires.3))
+    let few = header_few block c.args.limits.block c.header_right.ensures c.if-not-header_right.false in (
+      omega (arith, few, c.requires.0),
+      omega (arith, c.if-block-n.false),
+      c.darts_right.ensures.0 c.if-not-darts_right.false,
+      omega (arith, few, c.requires.3),
+    )
 
 pub returns : goal.returns
 returns c =
-    far_last (limits_of c.args.limits) c.args.block.now c.requires.0 (omega (arith, c.if-block-n.false)) c.header_right.ensures c.if-not-header_right.false
+    far_last (limits_of c.args.limits) c.args.block.now c.requires.0 (omega (arith, c.if-block-n.false)) c.header_right.ensures
+    c.if-not-header_right.false
     c.zeros.ensures c.if-not-zeros.false c.darts_right.ensures c.if-not-darts_right.false _ c.far_right.result c.far_right.ensures

@@ -10,8 +10,12 @@ returns-in_default c =
 
 pub apart-requires : goal.apart-requires
 apart-requires c =
-    let few = (rw c.in-Right.is at c.but_labels.ensures).0 in
-    (omega (arith, few, c.requires.block_le_room.0), omega (arith, few, c.requires.block_le_room.2, c.but_labels.auto.keys), omega (arith, few, c.requires.block_le_room.3), c.requires.by_index.1)
+    let few = (rw c.in-Right.is at c.but_labels.ensures).0 in (
+      omega (arith, few, c.requires.block_le_room.0),
+      omega (arith, few, c.requires.block_le_room.2, c.but_labels.auto.keys),
+      omega (arith, few, c.requires.block_le_room.3),
+      c.requires.by_index.1,
+    )
 
 pub returns : goal.returns
 returns c =

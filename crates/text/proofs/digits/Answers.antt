@@ -9,7 +9,13 @@ loop-i-init c =
 
 pub returns-then-not-is_digit : goal.returns-then-not-is_digit
 returns-then-not-is_digit c =
-    record { count = _; within = c.loop-i.invariant.0; past_is = refl; digits = c.loop-i.invariant.1; ended = λ h. sym c.is_digit.ensures ∙ c.if-not-is_digit.true }
+    record {
+      count = _;
+      within = c.loop-i.invariant.0;
+      past_is = refl;
+      digits = c.loop-i.invariant.1;
+      ended = λ h. sym c.is_digit.ensures ∙ c.if-not-is_digit.true;
+    }
 
 pub overflow_mul-w : goal.overflow_mul-w
 overflow_mul-w c =
@@ -25,14 +31,22 @@ overflow_add-w c =
 
 pub returns-then-w-ge-NUMBERS : goal.returns-then-w-ge-NUMBERS
 returns-then-w-ge-NUMBERS c =
-    too_large c.loop-i.invariant.1 c.loop-i-test.true c.requires (sym c.is_digit.ensures ∙ c.if-not-is_digit.false) (omega (arith, c.digit.ensures.0, c.if-w-ge-NUMBERS.true))
+    too_large c.loop-i.invariant.1 c.loop-i-test.true c.requires (sym c.is_digit.ensures ∙ c.if-not-is_digit.false)
+    (omega (arith, c.digit.ensures.0, c.if-w-ge-NUMBERS.true))
 
 pub loop-i-preserved : goal.loop-i-preserved
 loop-i-preserved c = (
   omega arith,
-  digits_more c.loop-i.invariant.1 (omega (arith, c.requires, c.loop-i-test.true)) (sym c.is_digit.ensures ∙ c.if-not-is_digit.false) (omega (arith, c.digit.ensures.0)) (omega (arith, c.if-w-ge-NUMBERS.false)),
+  digits_more c.loop-i.invariant.1 (omega (arith, c.requires, c.loop-i-test.true)) (sym c.is_digit.ensures ∙ c.if-not-is_digit.false)
+      (omega (arith, c.digit.ensures.0)) (omega (arith, c.if-w-ge-NUMBERS.false)),
 )
 
 pub returns : goal.returns
 returns c =
-    record { count = _; within = c.loop-i.invariant.0; past_is = refl; digits = c.loop-i.invariant.1; ended = λ h. absurd (omega (arith, c.loop-i-test.false, h)) }
+    record {
+      count = _;
+      within = c.loop-i.invariant.0;
+      past_is = refl;
+      digits = c.loop-i.invariant.1;
+      ended = λ h. absurd (omega (arith, c.loop-i-test.false, h));
+    }

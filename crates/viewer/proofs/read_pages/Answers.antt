@@ -14,7 +14,11 @@ use Rattle.viewer.proofs.read_pages.Goals as goal
 pub read_pages_by-requires : goal.read_pages_by-requires
 read_pages_by-requires c =
     let few = block_fits _ c.viewer.ensures in
-    record { block_le_room = (viewer_fits _ c.viewer.ensures, ap (λ (l : Limits). replicate (words_of l) 0) (sym c.viewer.ensures)); block_in_bounds = (few, getD_zeros 256); block_in_bounds_2 = (few, few, refl) }
+    record {
+      block_le_room = (viewer_fits _ c.viewer.ensures, ap (λ (l : Limits). replicate (words_of l) 0) (sym c.viewer.ensures));
+      block_in_bounds = (few, getD_zeros 256);
+      block_in_bounds_2 = (few, few, refl);
+    }
 
 pub returns : goal.returns
 returns c =

@@ -14,7 +14,11 @@ use Rattle.viewer.proofs.receive.Goals as goal
 pub receive_by-requires : goal.receive_by-requires
 receive_by-requires c =
     let few = block_fits _ c.viewer.ensures in
-    record { block_le_room = (viewer_fits _ c.viewer.ensures, record { vertex_size = refl; serial_size = refl; starts_size = refl; sizes_size = refl }); lent_arrays = zeros_lent 64 256 (volume_fits _ c.viewer.ensures) few (omega arith) (omega arith); block_in_bounds = (zeros_long _ 256 refl few, zeros_clear 256 refl, refl) }
+    record {
+      block_le_room = (viewer_fits _ c.viewer.ensures, record { vertex_size = refl; serial_size = refl; starts_size = refl; sizes_size = refl });
+      lent_arrays = zeros_lent 64 256 (volume_fits _ c.viewer.ensures) few (omega arith) (omega arith);
+      block_in_bounds = (zeros_long _ 256 refl few, zeros_clear 256 refl, refl);
+    }
 
 pub shape_of-block : goal.shape_of-block
 shape_of-block c =

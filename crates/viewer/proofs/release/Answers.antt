@@ -15,7 +15,12 @@ release_by-requires c =
     let few = block_fits _ c.viewer.ensures in
     let volume = volume_fits _ c.viewer.ensures in
     let clear = getD_zeros 256 in
-    record { block_le_room = (viewer_fits _ c.viewer.ensures, omega (arith, volume), volume); block_in_bounds = (few, few, few, clear, refl); block_in_bounds_2 = (few, clear, few, clear); block_in_bounds_3 = (few, few, few, few) }
+    record {
+      block_le_room = (viewer_fits _ c.viewer.ensures, omega (arith, volume), volume);
+      block_in_bounds = (few, few, few, clear, refl);
+      block_in_bounds_2 = (few, clear, few, clear);
+      block_in_bounds_3 = (few, few, few, few);
+    }
 
 pub returns : goal.returns
 returns c =

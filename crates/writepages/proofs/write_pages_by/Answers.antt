@@ -22,12 +22,15 @@ returns-then-not-is_sound_by c =
 pub page_count-pages-requires : goal.page_count-pages-requires
 page_count-pages-requires c =
     let lim = limits_of c.args.limits in
-    count_small c.args.block.now (image_by_size lim c.args.block.now c.requires.block_le_room.0 (c.if-block-words.false ∙ c.words.ensures) ∙ said_yes c.is_sound_by.ensures c.if-not-is_sound_by.false)
+    count_small c.args.block.now
+    (image_by_size lim c.args.block.now c.requires.block_le_room.0 (c.if-block-words.false ∙ c.words.ensures) ∙ said_yes c.is_sound_by.ensures
+    c.if-not-is_sound_by.false)
 
 pub overflow_mul-pages : goal.overflow_mul-pages
 overflow_mul-pages c =
     let lim = limits_of c.args.limits in
-    let held = image_by_size lim c.args.block.now c.requires.block_le_room.0 (c.if-block-words.false ∙ c.words.ensures) ∙ said_yes c.is_sound_by.ensures c.if-not-is_sound_by.false in
+    let held = image_by_size lim c.args.block.now c.requires.block_le_room.0 (c.if-block-words.false ∙ c.words.ensures) ∙ said_yes
+    c.is_sound_by.ensures c.if-not-is_sound_by.false in
     omega (arith, few_pages c.args.block.now held c.page_count-pages.ensures)
 
 pub returns-then-out-pages : goal.returns-then-out-pages
@@ -40,7 +43,8 @@ returns-then-out-pages c =
 pub put_pages-n-requires : goal.put_pages-n-requires
 put_pages-n-requires c =
     let lim = limits_of c.args.limits in
-    let held = image_by_size lim c.args.block.now c.requires.block_le_room.0 (c.if-block-words.false ∙ c.words.ensures) ∙ said_yes c.is_sound_by.ensures c.if-not-is_sound_by.false in
+    let held = image_by_size lim c.args.block.now c.requires.block_le_room.0 (c.if-block-words.false ∙ c.words.ensures) ∙ said_yes
+    c.is_sound_by.ensures c.if-not-is_sound_by.false in
     (held, c.page_count-pages.ensures, c.if-out-pages.false)
 
 pub returns : goal.returns

@@ -9,7 +9,8 @@ use Rattle.arrival.proofs.draft.put_draft.Given as goal
 
 abbrev pub invariant-loop-p : goal.invariant-loop-p
 invariant-loop-p l =
-    Drafting (draft_record l.vertex l.starts l.sizes l.keys l.ranks l.opposite l.message l.from) l.k l.draft l.p × (length l.draft ≡ length l.initial.draft)
+    Drafting (draft_record l.vertex l.starts l.sizes l.keys l.ranks l.opposite l.message l.from) l.k l.draft l.p ×
+    (length l.draft ≡ length l.initial.draft)
 
 abbrev pub decreases-loop-p : goal.decreases-loop-p
 decreases-loop-p l =

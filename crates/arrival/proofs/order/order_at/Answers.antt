@@ -36,4 +36,5 @@ bounds-serial-past c =
 
 pub returns : goal.returns
 returns c =
-    order_start c.args.serial.now c.args.starts.now c.args.i.0 c.index_at-start.ensures (omega (arith, c.if-serial-here.false)) c.if-first-here.false c.if-here-eq0.false c.index_at-before.ensures
+    order_start c.args.serial.now c.args.starts.now c.args.i.0 c.index_at-start.ensures (omega (arith, c.if-serial-here.false)) c.if-first-here.false
+    c.if-here-eq0.false c.index_at-before.ensures

@@ -18,7 +18,8 @@ returns-then-count-vertex c =
     let count = c.args.count in
     let k = c.args.k in
     let vertex = c.args.vertex.now in
-    few_then count k _ (omega arith) (passing_not (λ j. ltb (get_or vertex j 0) count) c.loop-i.i k (omega arith) (le-ltb (get_or vertex c.loop-i.i 0) count (omega arith)))
+    few_then count k _ (omega arith)
+    (passing_not (λ j. ltb (get_or vertex j 0) count) c.loop-i.i k (omega arith) (le-ltb (get_or vertex c.loop-i.i 0) count (omega arith)))
 
 pub loop-i-preserved : goal.loop-i-preserved
 loop-i-preserved c =

@@ -41,7 +41,8 @@ loop-r-smaller c =
 
 pub loop-r-preserved : goal.loop-r-preserved
 loop-r-preserved c = (
-  coupling_more c.requires.k_in_bounds.2 c.loop-r.invariant.0 c.loop-r-test.true (omega (arith, c.loop-r-test.true, c.if-r-k.false)) c.requires.by_index
+  coupling_more c.requires.k_in_bounds.2 c.loop-r.invariant.0 c.loop-r-test.true (omega (arith, c.loop-r-test.true, c.if-r-k.false))
+      c.requires.by_index
       (omega (arith, c.if-a-b.false)) refl refl,
   length-set (set c.loop-r.opposite _ _) _ _ ∙ length-set c.loop-r.opposite _ _ ∙ c.loop-r.invariant.1,
 )

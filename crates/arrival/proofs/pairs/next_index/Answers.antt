@@ -11,8 +11,10 @@ overflow_add-start c =
 
 pub returns-then-next-start : goal.returns-then-next-start
 returns-then-next-start c =
-    c.index_at-start.ensures ∙ next_last c.args.starts.now c.args.sizes.now c.args.i.0 (omega (arith, c.index_at-start.ensures, c.size_at-size.ensures, c.if-next-start.true))
+    c.index_at-start.ensures ∙ next_last c.args.starts.now c.args.sizes.now c.args.i.0
+    (omega (arith, c.index_at-start.ensures, c.size_at-size.ensures, c.if-next-start.true))
 
 pub returns : goal.returns
 returns c =
-    next_inner c.args.starts.now c.args.sizes.now c.args.i.0 (λ e. c.if-next-start.false (omega (arith, e, c.index_at-start.ensures, c.size_at-size.ensures)))
+    next_inner c.args.starts.now c.args.sizes.now c.args.i.0
+    (λ e. c.if-next-start.false (omega (arith, e, c.index_at-start.ensures, c.size_at-size.ensures)))

@@ -43,7 +43,14 @@ returns-then-not-rank c =
 pub edges-requires : goal.edges-requires
 edges-requires c =
     let w = c.rank.ensures.ranked c.if-not-rank.false in
-    record { k_in_bounds = (omega (arith, c.rank.auto.keys, c.requires.k_in_bounds_2.1), λ p h. omega (arith, w.index_below p h, c.requires.k_in_bounds.3), w.ascends); by_index = ranked_apart w }
+    record {
+      k_in_bounds = (
+        omega (arith, c.rank.auto.keys, c.requires.k_in_bounds_2.1),
+        λ p h. omega (arith, w.index_below p h, c.requires.k_in_bounds.3),
+        w.ascends,
+      );
+      by_index = ranked_apart w;
+    }
 
 pub returns : goal.returns
 returns c =

@@ -20,7 +20,8 @@ last_of-last-requires c =
 
 pub returns-then-there-serial : goal.returns-then-there-serial
 returns-then-there-serial c =
-    gap_held c.args.block.now c.if-serial-eq0.false c.requires.0 c.requires.3 c.last_of-last.ensures.0 (sym c.field-there.ensures ∙ c.if-there-serial.true)
+    gap_held c.args.block.now c.if-serial-eq0.false c.requires.0 c.requires.3 c.last_of-last.ensures.0
+    (sym c.field-there.ensures ∙ c.if-there-serial.true)
 
 pub returns-then-there-serial-2 : goal.returns-then-there-serial-2
 returns-then-there-serial-2 c =

@@ -17,7 +17,11 @@ ordered-requires c =
 
 pub returns-then-not-ordered : goal.returns-then-not-ordered
 returns-then-not-ordered c =
-    record { answer = (λ t w. order_no w (sym c.ordered.ensures ∙ c.if-not-ordered.true)); drafted = (λ y. absurd (true≢false (sym y))); unmarked = c.requires.k_in_bounds_2.6 }
+    record {
+      answer = (λ t w. order_no w (sym c.ordered.ensures ∙ c.if-not-ordered.true));
+      drafted = (λ y. absurd (true≢false (sym y)));
+      unmarked = c.requires.k_in_bounds_2.6;
+    }
 
 pub vertices_fit-requires : goal.vertices_fit-requires
 vertices_fit-requires c =
@@ -25,17 +29,36 @@ vertices_fit-requires c =
 
 pub returns-then-not-vertices_fit : goal.returns-then-not-vertices_fit
 returns-then-not-vertices_fit c =
-    record { answer = (λ t w. fit_no w (sym c.vertices_fit.ensures ∙ c.if-not-vertices_fit.true)); drafted = (λ y. absurd (true≢false (sym y))); unmarked = c.requires.k_in_bounds_2.6 }
+    record {
+      answer = (λ t w. fit_no w (sym c.vertices_fit.ensures ∙ c.if-not-vertices_fit.true));
+      drafted = (λ y. absurd (true≢false (sym y)));
+      unmarked = c.requires.k_in_bounds_2.6;
+    }
 
 pub paired-requires : goal.paired-requires
 paired-requires c =
     let told = c.requires.ranked.2.1 in
     let lent = c.requires.k_in_bounds_2 in
-    record { k_in_bounds = (c.requires.k_in_bounds.0, c.requires.k_in_bounds.2, c.requires.k_in_bounds.3, c.requires.k_in_bounds.6, told.some_darts, told.few); k_in_bounds_2 = (lent.2, lent.3, lent.4, lent.0); segments = (segs told, small told (sym c.vertices_fit.ensures ∙ c.if-not-vertices_fit.false)) }
+    record {
+      k_in_bounds = (
+        c.requires.k_in_bounds.0,
+        c.requires.k_in_bounds.2,
+        c.requires.k_in_bounds.3,
+        c.requires.k_in_bounds.6,
+        told.some_darts,
+        told.few,
+      );
+      k_in_bounds_2 = (lent.2, lent.3, lent.4, lent.0);
+      segments = (segs told, small told (sym c.vertices_fit.ensures ∙ c.if-not-vertices_fit.false));
+    }
 
 pub returns-then-not-paired : goal.returns-then-not-paired
 returns-then-not-paired c =
-    record { answer = (λ t w. paired_no w (sym c.vertices_fit.ensures ∙ c.if-not-vertices_fit.false) c.paired.ensures c.if-not-paired.true); drafted = (λ y. absurd (true≢false (sym y))); unmarked = c.requires.k_in_bounds_2.6 }
+    record {
+      answer = (λ t w. paired_no w (sym c.vertices_fit.ensures ∙ c.if-not-vertices_fit.false) c.paired.ensures c.if-not-paired.true);
+      drafted = (λ y. absurd (true≢false (sym y)));
+      unmarked = c.requires.k_in_bounds_2.6;
+    }
 
 pub put_draft-requires : goal.put_draft-requires
 put_draft-requires c =

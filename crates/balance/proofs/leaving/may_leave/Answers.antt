@@ -12,7 +12,12 @@ pub volume_leaves-requires : goal.volume_leaves-requires
 volume_leaves-requires c =
     let a = c.requires.asking in
     let volume = ap (λ (l : Limits). l.volume_darts) c.rack.ensures in
-    record { block_value = (c.requires.block_value.0, omega (arith, volume), c.requires.block_value.1); block_in_bounds = (a.marks_size, a.unmarked, a.seen_size, a.unseen); block_in_bounds_2 = (a.order_size, a.starts_size, a.numbers_size); block_in_bounds_3 = (a.firsts_size, omega (arith, volume, a.colours_size)) }
+    record {
+      block_value = (c.requires.block_value.0, omega (arith, volume), c.requires.block_value.1);
+      block_in_bounds = (a.marks_size, a.unmarked, a.seen_size, a.unseen);
+      block_in_bounds_2 = (a.order_size, a.starts_size, a.numbers_size);
+      block_in_bounds_3 = (a.firsts_size, omega (arith, volume, a.colours_size));
+    }
 
 pub returns-in-Volume : goal.returns-in-Volume
 returns-in-Volume c =

@@ -45,4 +45,5 @@ returns c =
     let axis = c.args.axis in
     let low = c.args.low in
     let high = c.args.high in
-    by_other viewers mesh scratch number axis (patterns low) (patterns high) c.if-number-eq0.false c.if-number-eq1.false c.if-number-eq2.false c.without_oracle.ensures
+    by_other viewers mesh scratch number axis (patterns low) (patterns high) c.if-number-eq0.false c.if-number-eq1.false c.if-number-eq2.false
+    c.without_oracle.ensures

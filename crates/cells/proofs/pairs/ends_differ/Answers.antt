@@ -58,7 +58,8 @@ give_colour-requires-in-loop-n c =
 
 pub shape_of-colours-then-not-give_colour : goal.shape_of-colours-then-not-give_colour
 shape_of-colours-then-not-give_colour c =
-    coloured_size _ c.loop-n.invariant.coloured c.give_colour-in-loop-n.ensures.coloured ∙ ap length c.give_colour.ensures.coloured ∙ length-set c.args.colours.now _ _
+    coloured_size _ c.loop-n.invariant.coloured c.give_colour-in-loop-n.ensures.coloured ∙ ap length c.give_colour.ensures.coloured ∙ length-set
+    c.args.colours.now _ _
 
 pub returns-then-not-give_colour : goal.returns-then-not-give_colour
 unfolding ring
@@ -70,9 +71,15 @@ returns-then-not-give_colour c =
     let r = round l.few w (step_apart _ _ _ l.few l.next_within l.next_apart l.opposite_within l.opposite_apart) _ c.requires.linked.1 in
     let e = ap (λ (z : ℕ). get_or numbers z 0) c.field-q.ensures in
     let small : get_or numbers c.field-q.result 0 < length c.give_colour.new.colours =
-    omega (arith, e, ap length c.give_colour.ensures.coloured ∙ length-set colours _ _, (c.requires.by_index _ (going_in r c.loop-n.invariant.going)).1) in
+    omega
+    (arith, e, ap length c.give_colour.ensures.coloured ∙ length-set colours _ _, (c.requires.by_index _ (going_in r c.loop-n.invariant.going)).1)
+    in
     let s = coloured_next c.loop-n.invariant.coloured small c.give_colour-in-loop-n.ensures.coloured in
-    record { differ = ending_twice w r c.loop-n.invariant e small (sym c.give_colour-in-loop-n.ensures.fresh ∙ c.if-not-give_colour.true); bound = s.bound; size = s.size ∙ ap length c.give_colour.ensures.coloured ∙ length-set colours _ _ }
+    record {
+      differ = ending_twice w r c.loop-n.invariant e small (sym c.give_colour-in-loop-n.ensures.fresh ∙ c.if-not-give_colour.true);
+      bound = s.bound;
+      size = s.size ∙ ap length c.give_colour.ensures.coloured ∙ length-set colours _ _;
+    }
 
 pub overflow_add-steps : goal.overflow_add-steps
 overflow_add-steps c =
@@ -87,7 +94,8 @@ ring_step-p-requires c =
 
 pub shape_of-colours-then-p-first : goal.shape_of-colours-then-p-first
 shape_of-colours-then-p-first c =
-    coloured_size _ c.loop-n.invariant.coloured c.give_colour-in-loop-n.ensures.coloured ∙ ap length c.give_colour.ensures.coloured ∙ length-set c.args.colours.now _ _
+    coloured_size _ c.loop-n.invariant.coloured c.give_colour-in-loop-n.ensures.coloured ∙ ap length c.give_colour.ensures.coloured ∙ length-set
+    c.args.colours.now _ _
 
 pub returns-then-p-first : goal.returns-then-p-first
 unfolding ring
@@ -99,9 +107,16 @@ returns-then-p-first c =
     let r = round l.few w (step_apart _ _ _ l.few l.next_within l.next_apart l.opposite_within l.opposite_apart) _ c.requires.linked.1 in
     let e = ap (λ (z : ℕ). get_or numbers z 0) c.field-q.ensures in
     let small : get_or numbers c.field-q.result 0 < length c.give_colour.new.colours =
-    omega (arith, e, ap length c.give_colour.ensures.coloured ∙ length-set colours _ _, (c.requires.by_index _ (going_in r c.loop-n.invariant.going)).1) in
+    omega
+    (arith, e, ap length c.give_colour.ensures.coloured ∙ length-set colours _ _, (c.requires.by_index _ (going_in r c.loop-n.invariant.going)).1)
+    in
     let s = coloured_next c.loop-n.invariant.coloured small c.give_colour-in-loop-n.ensures.coloured in
-    record { differ = ending_all w r c.loop-n.invariant e small (sym c.give_colour-in-loop-n.ensures.fresh ∙ c.if-not-give_colour.false) c.ring_step-p.ensures c.if-p-first.true; bound = s.bound; size = s.size ∙ ap length c.give_colour.ensures.coloured ∙ length-set colours _ _ }
+    record {
+      differ = ending_all w r c.loop-n.invariant e small (sym c.give_colour-in-loop-n.ensures.fresh ∙ c.if-not-give_colour.false)
+          c.ring_step-p.ensures c.if-p-first.true;
+      bound = s.bound;
+      size = s.size ∙ ap length c.give_colour.ensures.coloured ∙ length-set colours _ _;
+    }
 
 pub loop-n-smaller : goal.loop-n-smaller
 loop-n-smaller c =
@@ -117,6 +132,9 @@ loop-n-preserved c =
     let r = round l.few w (step_apart _ _ _ l.few l.next_within l.next_apart l.opposite_within l.opposite_apart) _ c.requires.linked.1 in
     let e = ap (λ (z : ℕ). get_or numbers z 0) c.field-q.ensures in
     let small : get_or numbers c.field-q.result 0 < length c.give_colour.new.colours =
-    omega (arith, e, ap length c.give_colour.ensures.coloured ∙ length-set colours _ _, (c.requires.by_index _ (going_in r c.loop-n.invariant.going)).1) in
-    ending_more w r c.loop-n.invariant e small (sym c.give_colour-in-loop-n.ensures.fresh ∙ c.if-not-give_colour.false) c.give_colour-in-loop-n.ensures.coloured
+    omega
+    (arith, e, ap length c.give_colour.ensures.coloured ∙ length-set colours _ _, (c.requires.by_index _ (going_in r c.loop-n.invariant.going)).1)
+    in
+    ending_more w r c.loop-n.invariant e small (sym c.give_colour-in-loop-n.ensures.fresh ∙ c.if-not-give_colour.false)
+    c.give_colour-in-loop-n.ensures.coloured
     (going_next w r c.loop-n.invariant.going c.ring_step-p.ensures c.if-p-first.false)

@@ -11,7 +11,8 @@ use Rattle.cells.proofs.sewn.count_sewn.Given as goal
 
 abbrev pub invariant-loop-f : goal.invariant-loop-f
 invariant-loop-f l =
-    (l.f ≤ l.count) × (l.sewn ≤ l.f) × (l.sewn ≡ length (keep (λ w. sewn_out l.block l.marks (start_of w)) (take l.f (faces (column l.block 1) (marked l.n l.marks)))))
+    (l.f ≤ l.count) × (l.sewn ≤ l.f) ×
+    (l.sewn ≡ length (keep (λ w. sewn_out l.block l.marks (start_of w)) (take l.f (faces (column l.block 1) (marked l.n l.marks)))))
 
 abbrev pub decreases-loop-f : goal.decreases-loop-f
 decreases-loop-f l =

@@ -41,8 +41,10 @@ pub loop-i-preserved : goal.loop-i-preserved
 loop-i-preserved c =
     let block = c.args.block.now in
     let marks = c.args.marks.now in
-    let order = c.args.order.now in
-    (omega (arith, c.loop-i-test.true), none_more (λ k. sewn_in block marks (get_or order k 0)) _ c.loop-i.invariant.1 (sym c.sewn_at.ensures ∙ c.if-sewn_at.false))
+    let order = c.args.order.now in (
+      omega (arith, c.loop-i-test.true),
+      none_more (λ k. sewn_in block marks (get_or order k 0)) _ c.loop-i.invariant.1 (sym c.sewn_at.ensures ∙ c.if-sewn_at.false),
+    )
 
 pub returns : goal.returns
 returns c =

@@ -13,4 +13,7 @@ unnumber-requires c =
 
 pub number_all-requires : goal.number_all-requires
 number_all-requires c =
-    record { linked = c.requires.linked; n_in_bounds = (omega (arith, c.unnumber.ensures.size, c.requires.n_in_bounds.0), assigned_in c.unnumber.ensures, c.requires.n_in_bounds.1) }
+    record {
+      linked = c.requires.linked;
+      n_in_bounds = (omega (arith, c.unnumber.ensures.size, c.requires.n_in_bounds.0), assigned_in c.unnumber.ensures, c.requires.n_in_bounds.1);
+    }

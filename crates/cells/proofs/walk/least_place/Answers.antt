@@ -13,8 +13,10 @@ loop-i-smaller-then-p-low c =
 
 pub loop-i-preserved-then-p-low : goal.loop-i-preserved-then-p-low
 loop-i-preserved-then-p-low c =
-    let order = c.args.order.now in
-    (omega (arith, c.loop-i-test.true), lower_next order c.loop-i.i c.loop-i.invariant.1 (omega (arith, c.loop-i-test.true, c.requires.2)) refl c.if-p-low.true)
+    let order = c.args.order.now in (
+      omega (arith, c.loop-i-test.true),
+      lower_next order c.loop-i.i c.loop-i.invariant.1 (omega (arith, c.loop-i-test.true, c.requires.2)) refl c.if-p-low.true,
+    )
 
 pub loop-i-smaller : goal.loop-i-smaller
 loop-i-smaller c =
@@ -22,8 +24,10 @@ loop-i-smaller c =
 
 pub loop-i-preserved : goal.loop-i-preserved
 loop-i-preserved c =
-    let order = c.args.order.now in
-    (omega (arith, c.loop-i-test.true), higher_next order c.loop-i.i c.loop-i.invariant.1 (omega (arith, c.loop-i-test.true, c.requires.2)) refl (omega (arith, c.if-p-low.false)))
+    let order = c.args.order.now in (
+      omega (arith, c.loop-i-test.true),
+      higher_next order c.loop-i.i c.loop-i.invariant.1 (omega (arith, c.loop-i-test.true, c.requires.2)) refl (omega (arith, c.if-p-low.false)),
+    )
 
 pub returns : goal.returns
 returns c =

@@ -60,7 +60,8 @@ loop-head-smaller c =
 pub loop-head-preserved : goal.loop-head-preserved
 loop-head-preserved c = (
   walk_step _ _ _ _ _ (volume_linked c.requires.0 c.requires.1) c.loop-head.invariant.0 c.requires.0.next_within
-      c.requires.0.opposite_within c.loop-head-test.true c.field-a.ensures c.visit-tail-in-loop-head.ensures c.field-b.ensures c.visit-tail-in-loop-head-2.ensures,
+      c.requires.0.opposite_within c.loop-head-test.true c.field-a.ensures c.visit-tail-in-loop-head.ensures c.field-b.ensures
+      c.visit-tail-in-loop-head-2.ensures,
   (visited_lengths c.visit-tail-in-loop-head-2.ensures).1 ∙ (visited_lengths c.visit-tail-in-loop-head.ensures).1 ∙ c.loop-head.invariant.1,
   (visited_lengths c.visit-tail-in-loop-head-2.ensures).0 ∙ (visited_lengths c.visit-tail-in-loop-head.ensures).0 ∙ c.loop-head.invariant.2,
 )
@@ -75,4 +76,8 @@ shape_of-marks c =
 
 pub returns : goal.returns
 returns c =
-    record { marked = walk_end _ _ _ _ _ (volume_linked c.requires.0 c.requires.1) c.loop-head.invariant.0 c.loop-head-test.false; count = walk_count _ _ _ _ _ (volume_linked c.requires.0 c.requires.1) c.loop-head.invariant.0 c.loop-head-test.false; listed = walk_listed _ _ _ _ _ (volume_linked c.requires.0 c.requires.1) c.loop-head.invariant.0 c.loop-head-test.false }
+    record {
+      marked = walk_end _ _ _ _ _ (volume_linked c.requires.0 c.requires.1) c.loop-head.invariant.0 c.loop-head-test.false;
+      count = walk_count _ _ _ _ _ (volume_linked c.requires.0 c.requires.1) c.loop-head.invariant.0 c.loop-head-test.false;
+      listed = walk_listed _ _ _ _ _ (volume_linked c.requires.0 c.requires.1) c.loop-head.invariant.0 c.loop-head-test.false;
+    }

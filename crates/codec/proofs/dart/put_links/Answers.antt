@@ -11,11 +11,18 @@ put_serial-past_serial-requires c =
 
 pub put_serial-past_next-requires : goal.put_serial-past_next-requires
 put_serial-past_next-requires c =
-    record { v_lt_serial_bound = c.requires.1; v_bound = omega (arith, c.requires.3, link_length c.args.serial c.args.next c.args.opposite, c.put_serial-past_serial.ensures.past) }
+    record {
+      v_lt_serial_bound = c.requires.1;
+      v_bound = omega (arith, c.requires.3, link_length c.args.serial c.args.next c.args.opposite, c.put_serial-past_serial.ensures.past);
+    }
 
 pub put_serial-requires : goal.put_serial-requires
 put_serial-requires c =
-    record { v_lt_serial_bound = c.requires.2; v_bound = omega (arith, c.requires.3, link_length c.args.serial c.args.next c.args.opposite, c.put_serial-past_serial.ensures.past, c.put_serial-past_next.ensures.past) }
+    record {
+      v_lt_serial_bound = c.requires.2;
+      v_bound = omega
+          (arith, c.requires.3, link_length c.args.serial c.args.next c.args.opposite, c.put_serial-past_serial.ensures.past, c.put_serial-past_next.ensures.past);
+    }
 
 pub returns : goal.returns
 unfolding link_bytes

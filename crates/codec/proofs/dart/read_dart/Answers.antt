@@ -21,7 +21,8 @@ returns-in_default-read_serial c =
 pub returns-in_default-read_serial-2 : goal.returns-in_default-read_serial-2
 returns-in_default-read_serial-2 c =
     no_opposite (took_serial (sym c.in-Value.is ∙ c.read_serial.ensures))
-    (took_serial (sym c.in-Value-read_serial.is ∙ c.read_serial-2.ensures)) (record { value = bad_at serial _ _ (sym c.in_default-read_serial-2.is ∙ c.read_serial-3.ensures) })
+    (took_serial (sym c.in-Value-read_serial.is ∙ c.read_serial-2.ensures))
+    (record { value = bad_at serial _ _ (sym c.in_default-read_serial-2.is ∙ c.read_serial-3.ensures) })
 
 pub returns-in_default-read_third : goal.returns-in_default-read_third
 returns-in_default-read_third c =

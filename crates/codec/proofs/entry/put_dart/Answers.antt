@@ -10,7 +10,10 @@ put_group-past-requires c =
 
 pub put_serial-requires : goal.put_serial-requires
 put_serial-requires c =
-    record { v_lt_serial_bound = c.requires.1; v_bound = room_after c.put_group-past.ensures _ (omega (arith, c.requires.2, dart_length c.args.vertex c.args.serial)) }
+    record {
+      v_lt_serial_bound = c.requires.1;
+      v_bound = room_after c.put_group-past.ensures _ (omega (arith, c.requires.2, dart_length c.args.vertex c.args.serial));
+    }
 
 pub returns : goal.returns
 returns c =

@@ -15,4 +15,5 @@ put_group-requires c =
 
 pub returns : goal.returns
 returns c =
-    stored_as (part2_bytes (record { label = label_in c.args.code; index = c.args.index.0 })) (stored_then c.put_label-past.ensures c.put_group.ensures)
+    stored_as (part2_bytes (record { label = label_in c.args.code; index = c.args.index.0 }))
+    (stored_then c.put_label-past.ensures c.put_group.ensures)

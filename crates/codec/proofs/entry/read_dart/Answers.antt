@@ -19,4 +19,6 @@ returns-in_default-read_serial c =
 
 pub returns : goal.returns
 returns c =
-    record { said = dart_took (took_group (sym c.in-Value.is ∙ c.read_group.ensures)) (took_serial (sym c.in-Value-read_serial.is ∙ c.read_serial.ensures)) }
+    record {
+      said = dart_took (took_group (sym c.in-Value.is ∙ c.read_group.ensures)) (took_serial (sym c.in-Value-read_serial.is ∙ c.read_serial.ensures));
+    }

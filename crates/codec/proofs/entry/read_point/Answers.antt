@@ -18,10 +18,12 @@ returns-in_default-read_coordinate c =
 
 pub returns-in_default-read_coordinate-2 : goal.returns-in_default-read_coordinate-2
 returns-in_default-read_coordinate-2 c =
-    no_z (took_coordinate (sym c.in-Value.is ∙ c.read_coordinate.ensures)) (took_coordinate (sym c.in-Value-read_coordinate.is ∙ c.read_coordinate-2.ensures))
+    no_z (took_coordinate (sym c.in-Value.is ∙ c.read_coordinate.ensures))
+    (took_coordinate (sym c.in-Value-read_coordinate.is ∙ c.read_coordinate-2.ensures))
     (record { value = bad_at coordinate _ _ (sym c.in_default-read_coordinate-2.is ∙ c.read_coordinate-3.ensures) })
 
 pub returns : goal.returns
 returns c =
-    three_read (took_coordinate (sym c.in-Value.is ∙ c.read_coordinate.ensures)) (took_coordinate (sym c.in-Value-read_coordinate.is ∙ c.read_coordinate-2.ensures))
+    three_read (took_coordinate (sym c.in-Value.is ∙ c.read_coordinate.ensures))
+    (took_coordinate (sym c.in-Value-read_coordinate.is ∙ c.read_coordinate-2.ensures))
     (took_coordinate (sym c.in-Value-read_coordinate-2.is ∙ c.read_coordinate-3.ensures))

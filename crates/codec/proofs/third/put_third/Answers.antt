@@ -27,7 +27,10 @@ put_serial-requires c =
     let kind = c.args.kind in
     let named = c.args.named in
     let sewn = sym c.is_sewn.ensures ∙ c.if-is_sewn.true in
-    record { v_lt_serial_bound = c.requires.0.sewn_small sewn; v_bound = omega (arith, c.requires.1, sewn_length kind named sewn, one_group 1 (omega arith), c.put_group-past_kind.ensures.past) }
+    record {
+      v_lt_serial_bound = c.requires.0.sewn_small sewn;
+      v_bound = omega (arith, c.requires.1, sewn_length kind named sewn, one_group 1 (omega arith), c.put_group-past_kind.ensures.past);
+    }
 
 pub returns-then-is_sewn : goal.returns-then-is_sewn
 returns-then-is_sewn c =
@@ -50,7 +53,8 @@ put_group-past_other-requires c =
     let named = c.args.named in
     let not-Free = sym c.is_free.ensures ∙ c.if-is_free.false in
     let not_sewn = sym c.is_sewn.ensures ∙ c.if-is_sewn.false in
-    omega (arith, c.requires.1, critical_length kind named not-Free not_sewn c.other_of.ensures, one_group 2 (omega arith), c.put_group-past_kind-2.ensures.past)
+    omega
+    (arith, c.requires.1, critical_length kind named not-Free not_sewn c.other_of.ensures, one_group 2 (omega arith), c.put_group-past_kind-2.ensures.past)
 
 pub put_label-requires : goal.put_label-requires
 put_label-requires c =
@@ -58,10 +62,12 @@ put_label-requires c =
     let named = c.args.named in
     let not-Free = sym c.is_free.ensures ∙ c.if-is_free.false in
     let not_sewn = sym c.is_sewn.ensures ∙ c.if-is_sewn.false in
-    omega (arith, c.requires.1, critical_length kind named not-Free not_sewn c.other_of.ensures, one_group 2 (omega arith), c.put_group-past_kind-2.ensures.past, c.put_group-past_other.ensures.past)
+    omega
+    (arith, c.requires.1, critical_length kind named not-Free not_sewn c.other_of.ensures, one_group 2 (omega arith), c.put_group-past_kind-2.ensures.past, c.put_group-past_other.ensures.past)
 
 pub returns : goal.returns
 returns c =
     let not-Free = sym c.is_free.ensures ∙ c.if-is_free.false in
     let not_sewn = sym c.is_sewn.ensures ∙ c.if-is_sewn.false in
-    rw (critical_bytes c.args.kind c.args.named not-Free not_sewn c.other_of.ensures) (stored_then c.put_group-past_kind-2.ensures (stored_then c.put_group-past_other.ensures c.put_label.ensures))
+    rw (critical_bytes c.args.kind c.args.named not-Free not_sewn c.other_of.ensures)
+    (stored_then c.put_group-past_kind-2.ensures (stored_then c.put_group-past_other.ensures c.put_label.ensures))

@@ -26,4 +26,5 @@ critical_with-requires c =
 
 pub returns : goal.returns
 returns c =
-    critical_read _ (took_at_most 15 (sym c.in-Value.is ∙ c.read_at_most.ensures)) (took_label (sym c.in-Value-read_label.is ∙ c.read_label.ensures)) c.critical_with.ensures
+    critical_read _ (took_at_most 15 (sym c.in-Value.is ∙ c.read_at_most.ensures)) (took_label (sym c.in-Value-read_label.is ∙ c.read_label.ensures))
+    c.critical_with.ensures

@@ -23,9 +23,11 @@ returns-then-kind-eq2 c =
 pub returns-in_default-read_serial : goal.returns-in_default-read_serial
 returns-in_default-read_serial c =
     let kind = took_at_most 2 (sym c.in-Value.is ∙ c.read_at_most.ensures) in
-    kind_is 1 kind (kind_one kind c.if-kind-eq-FREE.false c.if-kind-eq2.false) (no_sewn (record { value = bad_at serial _ _ (sym c.in_default-read_serial.is ∙ c.read_serial.ensures) }))
+    kind_is 1 kind (kind_one kind c.if-kind-eq-FREE.false c.if-kind-eq2.false)
+    (no_sewn (record { value = bad_at serial _ _ (sym c.in_default-read_serial.is ∙ c.read_serial.ensures) }))
 
 pub returns : goal.returns
 returns c =
     let kind = took_at_most 2 (sym c.in-Value.is ∙ c.read_at_most.ensures) in
-    kind_is 1 kind (kind_one kind c.if-kind-eq-FREE.false c.if-kind-eq2.false) (sewn_read (took_serial (sym c.in-Value-read_serial.is ∙ c.read_serial.ensures)))
+    kind_is 1 kind (kind_one kind c.if-kind-eq-FREE.false c.if-kind-eq2.false)
+    (sewn_read (took_serial (sym c.in-Value-read_serial.is ∙ c.read_serial.ensures)))

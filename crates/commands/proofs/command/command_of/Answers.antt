@@ -22,7 +22,8 @@ returns-then-same-3 c =
 pub returns-then-same-4 : goal.returns-then-same-4
 unfolding command_in bytes
 returns-then-same-4 c =
-    rw (sym c.same.ensures ∙ c.if-same.false, sym c.same-2.ensures ∙ c.if-same-2.false, sym c.same-3.ensures ∙ c.if-same-3.false, sym c.same-4.ensures ∙ c.if-same-4.true)
+    rw
+    (sym c.same.ensures ∙ c.if-same.false, sym c.same-2.ensures ∙ c.if-same-2.false, sym c.same-3.ensures ∙ c.if-same-3.false, sym c.same-4.ensures ∙ c.if-same-4.true)
 
 pub returns-then-same-5 : goal.returns-then-same-5
 unfolding command_in bytes

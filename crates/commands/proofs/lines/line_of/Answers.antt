@@ -13,7 +13,8 @@ returns-in_default c =
 
 pub returns-in_default-field_at : goal.returns-in_default-field_at
 returns-in_default-field_at c =
-    line_second _ _ _ (sym c.is_rest_blank.ensures ∙ c.if-is_rest_blank.false) (sym c.in-Value.is ∙ c.field_at.ensures) (sym c.in_default-field_at.is ∙ c.field_at-2.ensures)
+    line_second _ _ _ (sym c.is_rest_blank.ensures ∙ c.if-is_rest_blank.false) (sym c.in-Value.is ∙ c.field_at.ensures)
+    (sym c.in_default-field_at.is ∙ c.field_at-2.ensures)
 
 pub returns-in_default-field_at-2 : goal.returns-in_default-field_at-2
 returns-in_default-field_at-2 c =

@@ -47,7 +47,8 @@ loop-b-smaller c =
 pub loop-b-preserved : goal.loop-b-preserved
 loop-b-preserved c =
     let text = c.args.text.now in
-    viewing_passes c.loop-b.invariant (omega arith) (ends_is text c.loop-b.at c.loop-b.b c.is_number.ensures ∙ c.if-is_number.false) (sym c.goes_on.ensures ∙ c.if-goes_on.false)
+    viewing_passes c.loop-b.invariant (omega arith) (ends_is text c.loop-b.at c.loop-b.b c.is_number.ensures ∙ c.if-is_number.false)
+    (sym c.goes_on.ensures ∙ c.if-goes_on.false)
 
 pub returns : goal.returns
 returns c =

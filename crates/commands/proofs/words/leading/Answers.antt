@@ -12,13 +12,18 @@ pub returns-then-not-belongs : goal.returns-then-not-belongs
 returns-then-not-belongs c =
     let kind = c.args.kind in
     let text = c.args.text.now in
-    record { count = sym (leading_stop (belongs kind) text c.loop-i.i (omega arith) (sym c.belongs.ensures ∙ c.if-not-belongs.true)) ∙ c.loop-i.invariant.1; within = omega arith }
+    record {
+      count = sym (leading_stop (belongs kind) text c.loop-i.i (omega arith) (sym c.belongs.ensures ∙ c.if-not-belongs.true)) ∙ c.loop-i.invariant.1;
+      within = omega arith;
+    }
 
 pub loop-i-preserved : goal.loop-i-preserved
 loop-i-preserved c =
     let kind = c.args.kind in
-    let text = c.args.text.now in
-    (omega arith, sym (leading_on (belongs kind) text c.loop-i.i (omega arith) (sym c.belongs.ensures ∙ c.if-not-belongs.false)) ∙ c.loop-i.invariant.1)
+    let text = c.args.text.now in (
+      omega arith,
+      sym (leading_on (belongs kind) text c.loop-i.i (omega arith) (sym c.belongs.ensures ∙ c.if-not-belongs.false)) ∙ c.loop-i.invariant.1,
+    )
 
 pub returns : goal.returns
 returns c =

@@ -13,7 +13,8 @@ loop-i-init c =
 
 pub returns-then-one-i : goal.returns-then-one-i
 returns-then-one-i c =
-    sym (same_stop c.args.one.now c.args.other.now c.loop-i.i (omega arith) (omega (arith, c.loop-i.invariant.1)) c.if-one-i.true) ∙ c.loop-i.invariant.2
+    sym (same_stop c.args.one.now c.args.other.now c.loop-i.i (omega arith) (omega (arith, c.loop-i.invariant.1)) c.if-one-i.true) ∙
+    c.loop-i.invariant.2
 
 pub loop-i-smaller : goal.loop-i-smaller
 loop-i-smaller c =
@@ -22,8 +23,11 @@ loop-i-smaller c =
 pub loop-i-preserved : goal.loop-i-preserved
 loop-i-preserved c =
     let one = c.args.one.now in
-    let other = c.args.other.now in
-    (omega arith, c.loop-i.invariant.1, sym (same_on one other c.loop-i.i (omega arith) (omega (arith, c.loop-i.invariant.1)) c.if-one-i.false) ∙ c.loop-i.invariant.2)
+    let other = c.args.other.now in (
+      omega arith,
+      c.loop-i.invariant.1,
+      sym (same_on one other c.loop-i.i (omega arith) (omega (arith, c.loop-i.invariant.1)) c.if-one-i.false) ∙ c.loop-i.invariant.2,
+    )
 
 pub returns : goal.returns
 returns c =

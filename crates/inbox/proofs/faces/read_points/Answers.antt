@@ -19,8 +19,10 @@ overflow_sub-room c =
 
 pub returns-then-room-n : goal.returns-then-room-n
 returns-then-room-n c =
-    points_bad (took_group (sym c.in-Value.is ∙ c.read_group.ensures)) (omega (arith, c.if-room-n.true, (took_group (sym c.in-Value.is ∙ c.read_group.ensures)).within))
+    points_bad (took_group (sym c.in-Value.is ∙ c.read_group.ensures))
+    (omega (arith, c.if-room-n.true, (took_group (sym c.in-Value.is ∙ c.read_group.ensures)).within))
 
 pub returns : goal.returns
 returns c =
-    points_read (took_group (sym c.in-Value.is ∙ c.read_group.ensures)) (omega (arith, c.if-room-n.false, (took_group (sym c.in-Value.is ∙ c.read_group.ensures)).within))
+    points_read (took_group (sym c.in-Value.is ∙ c.read_group.ensures))
+    (omega (arith, c.if-room-n.false, (took_group (sym c.in-Value.is ∙ c.read_group.ensures)).within))

@@ -22,9 +22,11 @@ pass_entries-requires c =
 pub returns-in_default-pass_entries : goal.returns-in_default-pass_entries
 returns-in_default-pass_entries c =
     let part = c.args.part in
-    λ fs z. counted_short (entry part fs) (took_group (sym c.in-Value.is ∙ c.read_group.ensures)) c.in_default-pass_entries.is (c.pass_entries.ensures fs z)
+    λ fs z. counted_short (entry part fs) (took_group (sym c.in-Value.is ∙ c.read_group.ensures)) c.in_default-pass_entries.is
+    (c.pass_entries.ensures fs z)
 
 pub returns : goal.returns
 returns c =
     let part = c.args.part in
-    λ fs z. counted_good (entry part fs) (took_group (sym c.in-Value.is ∙ c.read_group.ensures)) c.in-Value-pass_entries.is (c.pass_entries.ensures fs z)
+    λ fs z. counted_good (entry part fs) (took_group (sym c.in-Value.is ∙ c.read_group.ensures)) c.in-Value-pass_entries.is
+    (c.pass_entries.ensures fs z)

@@ -20,7 +20,9 @@ counted_part-requires-2 c =
 
 pub returns-in_default-counted_part : goal.returns-in_default-counted_part
 returns-in_default-counted_part c =
-    λ fs z. tail_bad fs (no_third fs _ (counted_there part2 c.in-Counted.is (c.counted_part.ensures fs z)) (counted_missing part3 c.in_default-counted_part.is (c.counted_part-2.ensures fs z)))
+    λ fs z. tail_bad fs
+    (no_third fs _ (counted_there part2 c.in-Counted.is (c.counted_part.ensures fs z))
+    (counted_missing part3 c.in_default-counted_part.is (c.counted_part-2.ensures fs z)))
 
 pub counted_part-requires-3 : goal.counted_part-requires-3
 counted_part-requires-3 c =
@@ -34,10 +36,12 @@ returns-in_default-counted_part-2 c =
 
 pub returns-then-last-s : goal.returns-then-last-s
 returns-then-last-s c =
-    λ fs z. tail_more fs _ (counted_there part2 c.in-Counted.is (c.counted_part.ensures fs z)) _ (counted_there part3 c.in-Counted-counted_part.is (c.counted_part-2.ensures fs z))
+    λ fs z. tail_more fs _ (counted_there part2 c.in-Counted.is (c.counted_part.ensures fs z)) _
+    (counted_there part3 c.in-Counted-counted_part.is (c.counted_part-2.ensures fs z))
     _ (counted_there (part4 fs) c.in-Counted-counted_part-2.is (c.counted_part-3.ensures fs z)) c.if-last-s.true
 
 pub returns : goal.returns
 returns c =
-    λ fs z. tail_read fs _ (counted_there part2 c.in-Counted.is (c.counted_part.ensures fs z)) _ (counted_there part3 c.in-Counted-counted_part.is (c.counted_part-2.ensures fs z))
+    λ fs z. tail_read fs _ (counted_there part2 c.in-Counted.is (c.counted_part.ensures fs z)) _
+    (counted_there part3 c.in-Counted-counted_part.is (c.counted_part-2.ensures fs z))
     _ (counted_there (part4 fs) c.in-Counted-counted_part-2.is (c.counted_part-3.ensures fs z)) c.if-last-s.false

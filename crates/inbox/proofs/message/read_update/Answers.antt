@@ -16,7 +16,9 @@ returns-in_default c =
 
 pub returns-in_default-counted_part : goal.returns-in_default-counted_part
 returns-in_default-counted_part c =
-    update_bad (no_labels c.requires (took_at_most 15 (sym c.in-Value.is ∙ c.read_at_most.ensures)) (counted_missing label c.in_default-counted_part.is (c.counted_part.ensures [] (no_sizes _))))
+    update_bad
+    (no_labels c.requires (took_at_most 15 (sym c.in-Value.is ∙ c.read_at_most.ensures))
+    (counted_missing label c.in_default-counted_part.is (c.counted_part.ensures [] (no_sizes _))))
 
 pub returns-then-labels-s : goal.returns-then-labels-s
 returns-then-labels-s c =
@@ -25,4 +27,5 @@ returns-then-labels-s c =
 
 pub returns : goal.returns
 returns c =
-    update_good c.requires (took_at_most 15 (sym c.in-Value.is ∙ c.read_at_most.ensures)) _ (counted_there label c.in-Counted.is (c.counted_part.ensures [] (no_sizes _))) c.if-labels-s.false
+    update_good c.requires (took_at_most 15 (sym c.in-Value.is ∙ c.read_at_most.ensures)) _
+    (counted_there label c.in-Counted.is (c.counted_part.ensures [] (no_sizes _))) c.if-labels-s.false

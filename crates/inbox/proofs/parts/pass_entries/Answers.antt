@@ -9,11 +9,13 @@ loop-left-init c =
 
 pub returns-in_default : goal.returns-in_default
 returns-in_default c =
-    λ fs z. passing_stop (entry c.args.part fs) (c.loop-left.invariant fs z) c.in_default.is (omega (arith, c.loop-left-test.true)) (c.pass_entry.ensures fs z)
+    λ fs z. passing_stop (entry c.args.part fs) (c.loop-left.invariant fs z) c.in_default.is (omega (arith, c.loop-left-test.true))
+    (c.pass_entry.ensures fs z)
 
 pub loop-left-preserved : goal.loop-left-preserved
 loop-left-preserved c =
-    λ fs z. passing_more (entry c.args.part fs) (c.loop-left.invariant fs z) c.in-Value.is (omega (arith, c.loop-left-test.true)) (c.pass_entry.ensures fs z)
+    λ fs z. passing_more (entry c.args.part fs) (c.loop-left.invariant fs z) c.in-Value.is (omega (arith, c.loop-left-test.true))
+    (c.pass_entry.ensures fs z)
 
 pub returns : goal.returns
 returns c =

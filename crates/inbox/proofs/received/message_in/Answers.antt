@@ -16,7 +16,8 @@ read_front-requires c =
 pub returns-in_default-read_front : goal.returns-in_default-read_front
 returns-in_default-read_front c =
     let framed = head_there c.in-Head.is c.framed_head.ensures in
-    nothing_read framed c.read_front.ensures.sides (front_missing c.read_front.ensures c.in_default-read_front.is) (not_both framed c.if-head-eq1.true)
+    nothing_read framed c.read_front.ensures.sides (front_missing c.read_front.ensures c.in_default-read_front.is)
+    (not_both framed c.if-head-eq1.true)
 
 pub read_tail-requires : goal.read_tail-requires
 read_tail-requires c =
@@ -26,7 +27,8 @@ pub returns-in_default-read_tail : goal.returns-in_default-read_tail
 returns-in_default-read_tail c =
     let framed = head_there c.in-Head.is c.framed_head.ensures in
     let there = front_there c.read_front.ensures c.in-Front.is in
-    nothing_read framed c.read_front.ensures.sides (tail_missing there (c.read_tail.ensures there.fs (front_sized there)) c.in_default-read_tail.is) (not_both framed c.if-head-eq1.true)
+    nothing_read framed c.read_front.ensures.sides (tail_missing there (c.read_tail.ensures there.fs (front_sized there)) c.in_default-read_tail.is)
+    (not_both framed c.if-head-eq1.true)
 
 pub returns-then-head-eq1 : goal.returns-then-head-eq1
 returns-then-head-eq1 c =

@@ -31,7 +31,8 @@ record_at-r-requires c =
 
 pub put_moved-requires : goal.put_moved-requires
 put_moved-requires c =
-    let w = old_fits c.requires.interleaves.0 c.loop-i.invariant c.loop-i-test.true c.last_is_old.ensures c.if-last_is_old.true c.record_at-r.ensures _ c.requires.interleaves.1 in
+    let w = old_fits c.requires.interleaves.0 c.loop-i.invariant c.loop-i-test.true c.last_is_old.ensures c.if-last_is_old.true
+    c.record_at-r.ensures _ c.requires.interleaves.1 in
     (omega (arith, c.loop-i-test.true, c.loop-i.invariant.i_le, c.loop-i.invariant.j_le, c.loop-i.invariant.size, c.requires.interleaves.0.holds), w)
 
 pub loop-i-smaller-then-last_is_old : goal.loop-i-smaller-then-last_is_old
@@ -41,7 +42,8 @@ loop-i-smaller-then-last_is_old c =
 pub loop-i-preserved-then-last_is_old : goal.loop-i-preserved-then-last_is_old
 loop-i-preserved-then-last_is_old c =
     let old = c.args.old.now in
-    old_turn c.requires.interleaves.0 c.loop-i.invariant c.loop-i-test.true c.last_is_old.ensures c.if-last_is_old.true c.record_at-r.ensures old c.requires.tabled.0 c.put_moved.ensures
+    old_turn c.requires.interleaves.0 c.loop-i.invariant c.loop-i-test.true c.last_is_old.ensures c.if-last_is_old.true c.record_at-r.ensures old
+    c.requires.tabled.0 c.put_moved.ensures
 
 pub overflow_sub-q : goal.overflow_sub-q
 overflow_sub-q c =
@@ -54,7 +56,8 @@ draft_record-r-requires c =
 
 pub put_moved-requires-else-last_is_old : goal.put_moved-requires-else-last_is_old
 put_moved-requires-else-last_is_old c =
-    let w = new_fits c.requires.interleaves.0 c.loop-i.invariant c.loop-i-test.true c.last_is_old.ensures c.if-last_is_old.false c.draft_record-r.ensures _ c.requires.interleaves.2 in
+    let w = new_fits c.requires.interleaves.0 c.loop-i.invariant c.loop-i-test.true c.last_is_old.ensures c.if-last_is_old.false
+    c.draft_record-r.ensures _ c.requires.interleaves.2 in
     (omega (arith, c.loop-i-test.true, c.loop-i.invariant.i_le, c.loop-i.invariant.j_le, c.loop-i.invariant.size, c.requires.interleaves.0.holds), w)
 
 pub loop-i-smaller : goal.loop-i-smaller
@@ -64,7 +67,8 @@ loop-i-smaller c =
 pub loop-i-preserved : goal.loop-i-preserved
 loop-i-preserved c =
     let new = c.args.new.now in
-    new_turn c.requires.interleaves.0 c.loop-i.invariant c.loop-i-test.true c.last_is_old.ensures c.if-last_is_old.false c.draft_record-r.ensures new c.requires.tabled.1 c.put_moved-else-last_is_old.ensures
+    new_turn c.requires.interleaves.0 c.loop-i.invariant c.loop-i-test.true c.last_is_old.ensures c.if-last_is_old.false c.draft_record-r.ensures new
+    c.requires.tabled.1 c.put_moved-else-last_is_old.ensures
 
 pub shape_of-block : goal.shape_of-block
 shape_of-block c =

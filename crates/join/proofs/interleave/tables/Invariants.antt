@@ -9,7 +9,8 @@ use Rattle.join.proofs.interleave.tables.Given as goal
 
 abbrev pub invariant-loop-i : goal.invariant-loop-i
 invariant-loop-i l =
-    Placing (column l.block 0) l.n (column l.draft 0) l.k l.old l.new l.i l.j × (length l.old ≡ length l.initial.old) × (length l.new ≡ length l.initial.new)
+    Placing (column l.block 0) l.n (column l.draft 0) l.k l.old l.new l.i l.j × (length l.old ≡ length l.initial.old) ×
+    (length l.new ≡ length l.initial.new)
 
 abbrev pub decreases-loop-i : goal.decreases-loop-i
 decreases-loop-i l =

@@ -24,8 +24,11 @@ sew_at-requires c =
     )
 
 pub loop-i-preserved : goal.loop-i-preserved
-loop-i-preserved c =
-    (sewn_more c.requires.6 (omega (arith, c.loop-i.invariant.0.size, c.requires.0)) c.loop-i.invariant.0 (omega arith) c.rank_at-r.ensures c.new_at-p.ensures c.sew_at.ensures, omega arith)
+loop-i-preserved c = (
+  sewn_more c.requires.6 (omega (arith, c.loop-i.invariant.0.size, c.requires.0)) c.loop-i.invariant.0 (omega arith) c.rank_at-r.ensures
+      c.new_at-p.ensures c.sew_at.ensures,
+  omega arith,
+)
 
 pub returns : goal.returns
 returns c =

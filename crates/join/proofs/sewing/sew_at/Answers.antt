@@ -26,7 +26,8 @@ pub put_third-requires-3 : goal.put_third-requires-3
 put_third-requires-3 c =
     let block = c.args.block.now in
     let p' = c.args.p.0 in
-    omega (arith, c.moved_at-q.ensures, c.requires.2 c.if-kind-ne1.false, ap length c.put_third-2.ensures, third_length block p' 1 c.moved_at-q.result.0)
+    omega
+    (arith, c.moved_at-q.ensures, c.requires.2 c.if-kind-ne1.false, ap length c.put_third-2.ensures, third_length block p' 1 c.moved_at-q.result.0)
 
 pub returns : goal.returns
 returns c =

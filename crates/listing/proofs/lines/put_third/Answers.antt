@@ -71,4 +71,5 @@ returns c =
     let m = rw c.maker_of.ensures at c.put_number-past_maker.ensures in
     let n = rw c.number_of.ensures at c.put_number-past_number.ensures in
     let d = rw c.position_of.ensures at c.put_decimal-2.ensures in
-    rw (crit_text start.args.kind start.args.named not-Free not_sewn) (stored_then (stored_then (stored_then (stored_then c.put_text-past_crit.ensures o) m) n) d)
+    rw (crit_text start.args.kind start.args.named not-Free not_sewn)
+    (stored_then (stored_then (stored_then (stored_then c.put_text-past_crit.ensures o) m) n) d)

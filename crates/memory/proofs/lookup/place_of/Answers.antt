@@ -15,7 +15,8 @@ pub loop-left-preserved : goal.loop-left-preserved
 loop-left-preserved c =
     elim c.if-field-serial.branch [
       | then-field-serial w ↦ rw w.low-is (halving_up c.requires.1 c.loop-left.invariant c.loop-left-test.true c.field.ensures w.if-field-serial.true)
-      | else-field-serial w ↦ rw w.low-is (halving_down c.requires.1 c.loop-left.invariant c.loop-left-test.true c.field.ensures w.if-field-serial.false)
+      | else-field-serial w ↦ rw w.low-is
+          (halving_down c.requires.1 c.loop-left.invariant c.loop-left-test.true c.field.ensures w.if-field-serial.false)
     ]
 
 pub returns-then-field-serial-2 : goal.returns-then-field-serial-2

@@ -35,4 +35,5 @@ bounds-block-at-8 c =
 
 pub returns : goal.returns
 returns c =
-    stores_are c.args.block.now c.args.p.0 c.args.r.serial c.args.r.next c.args.r.opposite c.args.r.kind c.args.r.link c.args.r.x c.args.r.y c.args.r.z (omega arith)
+    stores_are c.args.block.now c.args.p.0 c.args.r.serial c.args.r.next c.args.r.opposite c.args.r.kind c.args.r.link c.args.r.x c.args.r.y
+    c.args.r.z (omega arith)

@@ -10,13 +10,15 @@ pub returns-then-not-made : goal.returns-then-not-made
 returns-then-not-made c =
     let mesh = c.args.mesh.now in
     let block = c.args.block.now in
-    going_no c.loop-p.invariant c.loop-p-test.true (made_at mesh block c.loop-p.p c.field-kind.ensures c.field-link.ensures c.made.ensures) c.if-not-made.true
+    going_no c.loop-p.invariant c.loop-p-test.true (made_at mesh block c.loop-p.p c.field-kind.ensures c.field-link.ensures c.made.ensures)
+    c.if-not-made.true
 
 pub loop-p-preserved : goal.loop-p-preserved
 loop-p-preserved c =
     let mesh = c.args.mesh.now in
     let block = c.args.block.now in
-    going_more c.loop-p.invariant c.loop-p-test.true (made_at mesh block c.loop-p.p c.field-kind.ensures c.field-link.ensures c.made.ensures) c.if-not-made.false
+    going_more c.loop-p.invariant c.loop-p-test.true (made_at mesh block c.loop-p.p c.field-kind.ensures c.field-link.ensures c.made.ensures)
+    c.if-not-made.false
 
 pub returns : goal.returns
 returns c =

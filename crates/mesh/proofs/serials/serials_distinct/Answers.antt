@@ -16,5 +16,6 @@ returns c =
     let mesh = c.args.mesh.now in
     let scratch = c.args.scratch.now in (
       c.apart-ok.ensures.0 ∙ ap distinct c.gather-c.ensures.2 ∙ gathered_all mesh,
-      cleared_again scratch (scratch_zero mesh scratch c.requires.0) (c.apart-ok.ensures.1 ∙ sym (scratch_length mesh scratch c.requires.0)) c.clear.ensures,
+      cleared_again scratch (scratch_zero mesh scratch c.requires.0) (c.apart-ok.ensures.1 ∙ sym (scratch_length mesh scratch c.requires.0))
+          c.clear.ensures,
     )

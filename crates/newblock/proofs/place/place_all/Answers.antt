@@ -9,8 +9,11 @@ loop-i-init c =
 
 pub resolve_dart-requires : goal.resolve_dart-requires
 resolve_dart-requires c =
-    let fits = c.requires.fits in
-    (c.loop-i-test.true, omega (arith, placing_length c.loop-i.invariant (omega (arith, fits)), fits), placing_ascends c.loop-i.invariant (omega (arith, fits)) (serials_ascend c.requires))
+    let fits = c.requires.fits in (
+      c.loop-i-test.true,
+      omega (arith, placing_length c.loop-i.invariant (omega (arith, fits)), fits),
+      placing_ascends c.loop-i.invariant (omega (arith, fits)) (serials_ascend c.requires),
+    )
 
 pub loop-i-preserved : goal.loop-i-preserved
 loop-i-preserved c =

@@ -5,4 +5,5 @@ use Rattle.newblock.proofs.place.resolve_dart.Goals as goal
 
 pub returns : goal.returns
 returns c =
-    record_placed _ c.args.block.now c.args.p.0 c.record_at-r.ensures c.place_near-next.ensures c.place_near-opposite.ensures c.link_place-link.ensures c.put_record.ensures
+    record_placed _ c.args.block.now c.args.p.0 c.record_at-r.ensures c.place_near-next.ensures c.place_near-opposite.ensures
+    c.link_place-link.ensures c.put_record.ensures

@@ -48,7 +48,8 @@ loop-k-preserved c =
     let numbers = c.args.numbers.now in
     let order = c.args.order.now in
     let first = c.args.start.0 in
-    running_step c.loop-k.invariant c.loop-k-test.true (stored_as (dart_is block numbers order first c.loop-k.k c.field.result c.field.ensures) c.put_dart-at.ensures)
+    running_step c.loop-k.invariant c.loop-k-test.true
+    (stored_as (dart_is block numbers order first c.loop-k.k c.field.result c.field.ensures) c.put_dart-at.ensures)
 
 pub shape_of-out : goal.shape_of-out
 shape_of-out c =

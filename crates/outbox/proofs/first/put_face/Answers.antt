@@ -21,7 +21,10 @@ put_darts-requires c =
     let order = c.args.order.now in
     let first = c.args.start.0 in
     let size = c.args.size in
-    record { darts_listed = c.requires.darts_listed; size_bound = room_after c.put_group-past.ensures _ (omega (arith, c.requires.size_bound, face_length block numbers order first size)) }
+    record {
+      darts_listed = c.requires.darts_listed;
+      size_bound = room_after c.put_group-past.ensures _ (omega (arith, c.requires.size_bound, face_length block numbers order first size));
+    }
 
 pub returns : goal.returns
 returns c =

@@ -24,8 +24,10 @@ put_face-at-requires c =
     let count = c.args.count in
     record {
       darts_listed = (
-        listed_part c.requires.darts_listed.0 _ (end_le c.requires.darts_listed.2 c.loop-f.f c.face_end-end.result c.loop-f-test.true c.face_end-end.ensures),
-        vertexed_part c.requires.darts_listed.1 _ (end_le c.requires.darts_listed.2 c.loop-f.f c.face_end-end.result c.loop-f-test.true c.face_end-end.ensures),
+        listed_part c.requires.darts_listed.0 _
+            (end_le c.requires.darts_listed.2 c.loop-f.f c.face_end-end.result c.loop-f-test.true c.face_end-end.ensures),
+        vertexed_part c.requires.darts_listed.1 _
+            (end_le c.requires.darts_listed.2 c.loop-f.f c.face_end-end.result c.loop-f-test.true c.face_end-end.ensures),
       );
       size_bound = omega (
         arith,
@@ -46,7 +48,8 @@ loop-f-preserved c =
     let starts = c.args.starts.now in
     let darts = c.args.darts in
     let count = c.args.count in
-    running_step c.loop-f.invariant c.loop-f-test.true (stored_as (faces_is block numbers order starts darts count c.loop-f.f c.face_end-end.result c.face_end-end.ensures) c.put_face-at.ensures)
+    running_step c.loop-f.invariant c.loop-f-test.true
+    (stored_as (faces_is block numbers order starts darts count c.loop-f.f c.face_end-end.result c.face_end-end.ensures) c.put_face-at.ensures)
 
 pub shape_of-out : goal.shape_of-out
 shape_of-out c =

@@ -34,8 +34,10 @@ bounds-order-start c =
     omega (arith, c.requires.darts_listed.1.below c.loop-f.f c.loop-f-test.true, c.requires.darts_listed.0.few, c.requires.darts_listed.0.order_size)
 
 pub field-word-requires : goal.field-word-requires
-field-word-requires c =
-    (c.requires.darts_listed.0.held (get_or c.args.starts.now c.loop-f.f 0) (c.requires.darts_listed.1.below c.loop-f.f c.loop-f-test.true), omega arith)
+field-word-requires c = (
+  c.requires.darts_listed.0.held (get_or c.args.starts.now c.loop-f.f 0) (c.requires.darts_listed.1.below c.loop-f.f c.loop-f-test.true),
+  omega arith,
+)
 
 pub overflow_add-f : goal.overflow_add-f
 overflow_add-f c =
@@ -46,16 +48,20 @@ loop-f-smaller-then-not-is_critical c =
     omega arith
 
 pub loop-f-preserved-then-not-is_critical : goal.loop-f-preserved-then-not-is_critical
-loop-f-preserved-then-not-is_critical c =
-    (omega (arith, c.loop-f-test.true), shares_skip c.loop-f.invariant.1 c.field-word.ensures (eqb-false _ 2 (sym c.is_critical.ensures ∙ c.if-not-is_critical.true)))
+loop-f-preserved-then-not-is_critical c = (
+  omega (arith, c.loop-f-test.true),
+  shares_skip c.loop-f.invariant.1 c.field-word.ensures (eqb-false _ 2 (sym c.is_critical.ensures ∙ c.if-not-is_critical.true)),
+)
 
 pub overflow_sub-end : goal.overflow_sub-end
 overflow_sub-end c =
     start_le c.requires.darts_listed.1 c.loop-f.f c.face_end-end.result c.loop-f-test.true c.face_end-end.ensures
 
 pub least_code-code-requires : goal.least_code-code-requires
-least_code-code-requires c =
-    (listed_part c.requires.darts_listed.0 _ (end_le c.requires.darts_listed.1 c.loop-f.f _ c.loop-f-test.true c.face_end-end.ensures), some_darts c.requires.darts_listed.1 c.loop-f.f _ c.loop-f-test.true c.face_end-end.ensures)
+least_code-code-requires c = (
+  listed_part c.requires.darts_listed.0 _ (end_le c.requires.darts_listed.1 c.loop-f.f _ c.loop-f-test.true c.face_end-end.ensures),
+  some_darts c.requires.darts_listed.1 c.loop-f.f _ c.loop-f-test.true c.face_end-end.ensures,
+)
 
 pub add_face-requires : goal.add_face-requires
 add_face-requires c =

@@ -49,8 +49,11 @@ pub loop-k-preserved : goal.loop-k-preserved
 loop-k-preserved c =
     let block = c.args.block.now in
     let order = c.args.order.now in
-    let first = c.args.start.0 in
-    (omega arith, omega (arith, c.loop-k-test.true), least_step block order first c.loop-k.k c.loop-k.invariant.0 c.loop-k.invariant.2 c.field.ensures c.lesser-least.ensures)
+    let first = c.args.start.0 in (
+      omega arith,
+      omega (arith, c.loop-k-test.true),
+      least_step block order first c.loop-k.k c.loop-k.invariant.0 c.loop-k.invariant.2 c.field.ensures c.lesser-least.ensures,
+    )
 
 pub returns : goal.returns
 returns c =

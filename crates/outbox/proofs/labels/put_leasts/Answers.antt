@@ -36,8 +36,10 @@ overflow_add-f c =
     omega arith
 
 pub field-requires : goal.field-requires
-field-requires c =
-    (c.requires.darts_listed.0.held (get_or c.args.starts.now c.loop-f.f 0) (c.requires.darts_listed.1.below c.loop-f.f c.loop-f-test.true), omega arith)
+field-requires c = (
+  c.requires.darts_listed.0.held (get_or c.args.starts.now c.loop-f.f 0) (c.requires.darts_listed.1.below c.loop-f.f c.loop-f-test.true),
+  omega arith,
+)
 
 pub critical_with-requires : goal.critical_with-requires
 critical_with-requires c =
@@ -59,8 +61,10 @@ overflow_sub-end c =
     start_le c.requires.darts_listed.1 c.loop-f.f c.face_end-end.result c.loop-f-test.true c.face_end-end.ensures
 
 pub least_code-code-requires : goal.least_code-code-requires
-least_code-code-requires c =
-    (listed_part c.requires.darts_listed.0 _ (end_le c.requires.darts_listed.1 c.loop-f.f _ c.loop-f-test.true c.face_end-end.ensures), some_darts c.requires.darts_listed.1 c.loop-f.f _ c.loop-f-test.true c.face_end-end.ensures)
+least_code-code-requires c = (
+  listed_part c.requires.darts_listed.0 _ (end_le c.requires.darts_listed.1 c.loop-f.f _ c.loop-f-test.true c.face_end-end.ensures),
+  some_darts c.requires.darts_listed.1 c.loop-f.f _ c.loop-f-test.true c.face_end-end.ensures,
+)
 
 pub put_label-at-requires : goal.put_label-at-requires
 put_label-at-requires c =

@@ -38,7 +38,11 @@ put_labels-requires c =
     let first = c.args.start.0 in
     let size = c.args.size in
     let other_is = c.other_of-other.ensures ∙ ap (λ (k : ℕ). k / 4) c.field.ensures in
-    record { darts_listed = c.requires.darts_listed.0; size_bound = room_after c.put_part4-past.ensures _ (omega (arith, c.requires.size_bound, beside_length block order first size c.other_of-other.result other_is)) }
+    record {
+      darts_listed = c.requires.darts_listed.0;
+      size_bound = room_after c.put_part4-past.ensures _
+          (omega (arith, c.requires.size_bound, beside_length block order first size c.other_of-other.result other_is));
+    }
 
 pub returns : goal.returns
 returns c =

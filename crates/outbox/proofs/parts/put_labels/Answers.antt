@@ -20,7 +20,8 @@ put_label-at-requires c =
     let block = c.args.block.now in
     let order = c.args.order.now in
     let first = c.args.start.0 in
-    omega (arith, ap length (label_is block order first c.loop-k.k c.field.result c.field.ensures), running_space c.loop-k.invariant c.loop-k-test.true)
+    omega
+    (arith, ap length (label_is block order first c.loop-k.k c.field.result c.field.ensures), running_space c.loop-k.invariant c.loop-k-test.true)
 
 pub loop-k-smaller : goal.loop-k-smaller
 loop-k-smaller c =
@@ -31,7 +32,8 @@ loop-k-preserved c =
     let block = c.args.block.now in
     let order = c.args.order.now in
     let first = c.args.start.0 in
-    running_step c.loop-k.invariant c.loop-k-test.true (stored_as (label_is block order first c.loop-k.k c.field.result c.field.ensures) c.put_label-at.ensures)
+    running_step c.loop-k.invariant c.loop-k-test.true
+    (stored_as (label_is block order first c.loop-k.k c.field.result c.field.ensures) c.put_label-at.ensures)
 
 pub shape_of-out : goal.shape_of-out
 shape_of-out c =

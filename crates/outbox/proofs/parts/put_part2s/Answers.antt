@@ -32,8 +32,10 @@ overflow_add-f c =
     omega arith
 
 pub critical_with-requires : goal.critical_with-requires
-critical_with-requires c =
-    (omega (arith, c.requires.block_in_bounds.0, c.requires.block_in_bounds.1.place_below c.loop-f.f c.loop-f-test.true), c.requires.block_in_bounds.2)
+critical_with-requires c = (
+  omega (arith, c.requires.block_in_bounds.0, c.requires.block_in_bounds.1.place_below c.loop-f.f c.loop-f-test.true),
+  c.requires.block_in_bounds.2,
+)
 
 pub loop-f-smaller-then-not-critical_with : goal.loop-f-smaller-then-not-critical_with
 loop-f-smaller-then-not-critical_with c =
@@ -45,7 +47,8 @@ loop-f-preserved-then-not-critical_with c =
     let to = c.args.to in
     let order = c.args.order.now in
     let starts = c.args.starts.now in
-    running_skip c.loop-f.invariant c.loop-f-test.true (part2_none block to order starts c.loop-f.f (said_no c.critical_with.ensures c.if-not-critical_with.true))
+    running_skip c.loop-f.invariant c.loop-f-test.true
+    (part2_none block to order starts c.loop-f.f (said_no c.critical_with.ensures c.if-not-critical_with.true))
 
 pub field-requires : goal.field-requires
 field-requires c =

@@ -49,7 +49,8 @@ loop-f-preserved-then-not-sewn_away c =
     let starts = c.args.starts.now in (
       running_skip c.loop-f.invariant.0 c.loop-f-test.true
           (part3_none block marks counter order starts c.loop-f.f (said_no c.sewn_away.ensures c.if-not-sewn_away.true)),
-      omega (arith, c.loop-f.invariant.1, tally_no (in_part3 block marks order starts) c.loop-f.f (said_no c.sewn_away.ensures c.if-not-sewn_away.true)),
+      omega
+          (arith, c.loop-f.invariant.1, tally_no (in_part3 block marks order starts) c.loop-f.f (said_no c.sewn_away.ensures c.if-not-sewn_away.true)),
     )
 
 pub put_part3-at-requires : goal.put_part3-at-requires
@@ -82,7 +83,8 @@ overflow_add-number c =
     let order = c.args.order.now in
     let starts = c.args.starts.now in
     let count = c.args.count in
-    omega (arith, c.loop-f.invariant.1, c.requires.count_bound, tally_grows (in_part3 block marks order starts) c.loop-f.f count (omega (arith, c.loop-f-test.true)))
+    omega
+    (arith, c.loop-f.invariant.1, c.requires.count_bound, tally_grows (in_part3 block marks order starts) c.loop-f.f count (omega (arith, c.loop-f-test.true)))
 
 pub loop-f-smaller : goal.loop-f-smaller
 loop-f-smaller c =
@@ -99,7 +101,8 @@ loop-f-preserved c =
           (stored_as
           (part3_one block marks counter order starts c.loop-f.f c.loop-f.number (said_yes c.sewn_away.ensures c.if-not-sewn_away.false) c.loop-f.invariant.1)
           c.put_part3-at.ensures),
-      omega (arith, c.loop-f.invariant.1, tally_yes (in_part3 block marks order starts) c.loop-f.f (said_yes c.sewn_away.ensures c.if-not-sewn_away.false)),
+      omega
+          (arith, c.loop-f.invariant.1, tally_yes (in_part3 block marks order starts) c.loop-f.f (said_yes c.sewn_away.ensures c.if-not-sewn_away.false)),
     )
 
 pub shape_of-out : goal.shape_of-out

@@ -9,7 +9,8 @@ use Rattle.outbox.proofs.parts.put_part3s.Given as goal
 
 abbrev pub invariant-loop-f : goal.invariant-loop-f
 invariant-loop-f l =
-    Running (part3_put l.block l.marks l.counter l.order l.starts) l.count l.initial.out l.from l.f l.out l.at × (l.number ≡ l.counter + tally (in_part3 l.block l.marks l.order l.starts) l.f)
+    Running (part3_put l.block l.marks l.counter l.order l.starts) l.count l.initial.out l.from l.f l.out l.at ×
+    (l.number ≡ l.counter + tally (in_part3 l.block l.marks l.order l.starts) l.f)
 
 abbrev pub decreases-loop-f : goal.decreases-loop-f
 decreases-loop-f l =

@@ -37,8 +37,10 @@ overflow_add-f c =
 
 pub critical_beside-requires : goal.critical_beside-requires
 critical_beside-requires c =
-    let starts = c.args.starts.now in
-    (c.requires.darts_listed.0.held (get_or starts c.loop-f.f 0) (c.requires.darts_listed.1.below c.loop-f.f c.loop-f-test.true), c.requires.darts_listed.2)
+    let starts = c.args.starts.now in (
+      c.requires.darts_listed.0.held (get_or starts c.loop-f.f 0) (c.requires.darts_listed.1.below c.loop-f.f c.loop-f-test.true),
+      c.requires.darts_listed.2,
+    )
 
 pub loop-f-smaller-then-not-critical_beside : goal.loop-f-smaller-then-not-critical_beside
 loop-f-smaller-then-not-critical_beside c =
@@ -52,7 +54,8 @@ loop-f-preserved-then-not-critical_beside c =
     let starts = c.args.starts.now in
     let darts = c.args.darts in
     let count = c.args.count in
-    running_skip c.loop-f.invariant c.loop-f-test.true (part4_none block to order starts c.loop-f.f darts count (said_no c.critical_beside.ensures c.if-not-critical_beside.true))
+    running_skip c.loop-f.invariant c.loop-f-test.true
+    (part4_none block to order starts c.loop-f.f darts count (said_no c.critical_beside.ensures c.if-not-critical_beside.true))
 
 pub overflow_sub-end : goal.overflow_sub-end
 overflow_sub-end c =
@@ -68,7 +71,8 @@ put_beside-at-requires c =
     let count = c.args.count in
     record {
       darts_listed = (
-        listed_part c.requires.darts_listed.0 _ (end_le c.requires.darts_listed.1 c.loop-f.f c.face_end-end.result c.loop-f-test.true c.face_end-end.ensures),
+        listed_part c.requires.darts_listed.0 _
+            (end_le c.requires.darts_listed.1 c.loop-f.f c.face_end-end.result c.loop-f-test.true c.face_end-end.ensures),
         some_darts c.requires.darts_listed.1 c.loop-f.f c.face_end-end.result c.loop-f-test.true c.face_end-end.ensures,
       );
       size_bound = omega (

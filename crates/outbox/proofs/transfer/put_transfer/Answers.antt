@@ -33,7 +33,11 @@ put_part1-past_first-requires c =
     let sv = c.requires.surveyed in
     let j = c.args.to in
     let z = c.requires.transfer_sized.0 in
-    record { darts_listed = (listed m ok sv, vertexed m ok sv, started m ok sv); pointed = (pointed m ok sv, (ranges_in m ok).number_small, c.requires.to_le_last_block.0); firsts_bound = omega (arith, c.requires.transfer_sized.1, whole_length m ok j sv z, c.put_group-past_length.ensures.past) }
+    record {
+      darts_listed = (listed m ok sv, vertexed m ok sv, started m ok sv);
+      pointed = (pointed m ok sv, (ranges_in m ok).number_small, c.requires.to_le_last_block.0);
+      firsts_bound = omega (arith, c.requires.transfer_sized.1, whole_length m ok j sv z, c.put_group-past_length.ensures.past);
+    }
 
 pub put_parts-requires : goal.put_parts-requires
 put_parts-requires c =
@@ -77,4 +81,5 @@ returns c =
     let sv = c.requires.surveyed in
     let j = c.args.to in
     let z = c.requires.transfer_sized.0 in
-    stored_as (message_bytes m ok j sv z.rest_is) (stored_then c.put_group-past_length.ensures (stored_then c.put_part1-past_first.ensures c.put_parts.ensures))
+    stored_as (message_bytes m ok j sv z.rest_is)
+    (stored_then c.put_group-past_length.ensures (stored_then c.put_part1-past_first.ensures c.put_parts.ensures))

@@ -27,7 +27,11 @@ put_part1-first-requires c =
     let m = c.args.block.now in
     let ok = c.requires.block_value in
     let sv = c.requires.surveyed in
-    record { darts_listed = (listed m ok sv, vertexed m ok sv, started m ok sv); pointed = (pointed m ok sv, (ranges_in m ok).number_small, c.requires.to_le_last_block.0); firsts_bound = omega (arith, halves_short m ok c.args.to sv) }
+    record {
+      darts_listed = (listed m ok sv, vertexed m ok sv, started m ok sv);
+      pointed = (pointed m ok sv, (ranges_in m ok).number_small, c.requires.to_le_last_block.0);
+      firsts_bound = omega (arith, halves_short m ok c.args.to sv);
+    }
 
 pub put_parts-rest-requires : goal.put_parts-rest-requires
 put_parts-rest-requires c =
@@ -35,15 +39,22 @@ put_parts-rest-requires c =
     let ok = c.requires.block_value in
     let sv = c.requires.surveyed in
     let j = c.args.to in
-    record { darts_listed = (listed m ok sv, started m ok sv, c.requires.to_le_last_block.0); linked = (linked m ok sv, sv.marks_size, opened m ok sv); part2_value = (c.part2_count-part2.ensures, sewn_tally m ok j sv, c.part4_count-part4.ensures); sewn_bound = (c.requires.to_le_last_block.1, omega (arith, halves_short m ok j sv, c.put_part1-first.ensures.past)) }
+    record {
+      darts_listed = (listed m ok sv, started m ok sv, c.requires.to_le_last_block.0);
+      linked = (linked m ok sv, sv.marks_size, opened m ok sv);
+      part2_value = (c.part2_count-part2.ensures, sewn_tally m ok j sv, c.part4_count-part4.ensures);
+      sewn_bound = (c.requires.to_le_last_block.1, omega (arith, halves_short m ok j sv, c.put_part1-first.ensures.past));
+    }
 
 pub overflow_cast-rest : goal.overflow_cast-rest
 overflow_cast-rest c =
-    omega (arith, end_small c.args.block.now c.requires.block_value c.args.to c.requires.surveyed c.put_part1-first.ensures.past c.put_parts-rest.ensures.past)
+    omega
+    (arith, end_small c.args.block.now c.requires.block_value c.args.to c.requires.surveyed c.put_part1-first.ensures.past c.put_parts-rest.ensures.past)
 
 pub overflow_add-whole : goal.overflow_add-whole
 overflow_add-whole c =
-    let small = end_small c.args.block.now c.requires.block_value c.args.to c.requires.surveyed c.put_part1-first.ensures.past c.put_parts-rest.ensures.past in
+    let small = end_small c.args.block.now c.requires.block_value c.args.to c.requires.surveyed c.put_part1-first.ensures.past
+    c.put_parts-rest.ensures.past in
     omega (arith, small, c.group_count.ensures, count_most c.put_parts-rest.result (omega (arith, small)))
 
 pub returns : goal.returns
@@ -54,6 +65,7 @@ returns c =
     let j = c.args.to in
     let small = end_small m ok j sv c.put_part1-first.ensures.past c.put_parts-rest.ensures.past in
     let count_is = c.group_count.ensures ∙ sym (group_length c.put_parts-rest.result (omega (arith, small))) in
-    sized m ok j sv _ c.part2_count-part2.ensures c.part4_count-part4.ensures (end_is m ok j sv c.put_part1-first.ensures.past c.put_parts-rest.ensures.past)
+    sized m ok j sv _ c.part2_count-part2.ensures c.part4_count-part4.ensures
+    (end_is m ok j sv c.put_part1-first.ensures.past c.put_parts-rest.ensures.past)
     (ap (λ (n : ℕ). n + c.put_parts-rest.result) count_is)
     (omega (arith, small, c.group_count.ensures, count_most c.put_parts-rest.result (omega (arith, small))))

@@ -31,7 +31,10 @@ put_leasts-requires c =
     let len =
     read_length a.block.now a.to a.order.now a.starts.now a.darts a.count a.k c.requires.n_value.0
     c.requires.n_value.1 r in
-    record { darts_listed = (c.requires.darts_listed.0, c.requires.darts_listed.1, omega (arith, c.requires.block_bound.2)); count_bound = omega (arith, c.requires.k_bound, len, c.put_head-past.ensures.past) }
+    record {
+      darts_listed = (c.requires.darts_listed.0, c.requires.darts_listed.1, omega (arith, c.requires.block_bound.2));
+      count_bound = omega (arith, c.requires.k_bound, len, c.put_head-past.ensures.past);
+    }
 
 pub shape_of-out : goal.shape_of-out
 shape_of-out c =

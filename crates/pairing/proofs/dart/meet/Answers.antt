@@ -15,4 +15,5 @@ same_point-requires c =
 pub returns : goal.returns
 returns c =
     let asked = c.requires.0 in
-    meet_told asked c.args.h c.requires.1 (next_held asked c.requires.2 c.next.ensures) c.next.ensures c.point_of-here.ensures c.point_of-there.ensures c.same_point.ensures
+    meet_told asked c.args.h c.requires.1 (next_held asked c.requires.2 c.next.ensures) c.next.ensures c.point_of-here.ensures
+    c.point_of-there.ensures c.same_point.ensures

@@ -8,7 +8,8 @@ use Rattle.pairing.proofs.keys.put_key.Goals as goal
 
 pub returns-then-not-is_critical : goal.returns-then-not-is_critical
 returns-then-not-is_critical c =
-    key_none c.args.block.now c.args.i c.args.p.0 c.args.at c.args.out.now c.field-kind.ensures (sym c.is_critical.ensures ∙ c.if-not-is_critical.true)
+    key_none c.args.block.now c.args.i c.args.p.0 c.args.at c.args.out.now c.field-kind.ensures
+    (sym c.is_critical.ensures ∙ c.if-not-is_critical.true)
 
 pub overflow_mul-out : goal.overflow_mul-out
 overflow_mul-out c =

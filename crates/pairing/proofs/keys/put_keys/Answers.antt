@@ -6,8 +6,14 @@ loop-p-init c =
     putting_none _ _ _ _
 
 pub put_key-end-requires : goal.put_key-end-requires
-put_key-end-requires c =
-    (c.requires.0, c.requires.1, c.requires.2, c.requires.3, c.loop-p-test.true, putting_room c.loop-p.invariant c.loop-p-test.true c.requires.1 c.requires.4)
+put_key-end-requires c = (
+  c.requires.0,
+  c.requires.1,
+  c.requires.2,
+  c.requires.3,
+  c.loop-p-test.true,
+  putting_room c.loop-p.invariant c.loop-p-test.true c.requires.1 c.requires.4,
+)
 
 pub loop-p-preserved : goal.loop-p-preserved
 loop-p-preserved c =

@@ -102,8 +102,12 @@ returns-then-not-entries_fit c =
     let to = c.args.to in
     let tail = c.args.tail in
     let few-yes = sym c.few.ensures ∙ c.if-not-few.false in
-    entries_no block starts from to tail few-yes c.read_pairs.ensures c.read_pairs-2.ensures
-    (c.read_part4.ensures, omega (arith, c.read_pairs-2.auto, c.requires.k_in_bounds.1), omega (arith, c.read_part4.auto, c.requires.k_in_bounds.2), omega (arith, c.read_part4.auto, c.requires.k_in_bounds.3))
+    entries_no block starts from to tail few-yes c.read_pairs.ensures c.read_pairs-2.ensures (
+      c.read_part4.ensures,
+      omega (arith, c.read_pairs-2.auto, c.requires.k_in_bounds.1),
+      omega (arith, c.read_part4.auto, c.requires.k_in_bounds.2),
+      omega (arith, c.read_part4.auto, c.requires.k_in_bounds.3),
+    )
     (sym c.entries_fit.ensures ∙ c.if-not-entries_fit.true)
 
 pub put_part3-requires : goal.put_part3-requires
@@ -120,14 +124,22 @@ put_part3-requires c =
         omega (arith, few3 tail few-yes, c.read_pairs-2.auto, c.requires.k_in_bounds.1),
         omega (arith, few3 tail few-yes, c.read_pairs-2.auto, c.requires.k_in_bounds.0),
         c.requires.block_value.9,
-        put_numbers block starts from to tail few-yes c.read_pairs.ensures c.read_pairs-2.ensures
-            (c.read_part4.ensures, omega (arith, c.read_pairs-2.auto, c.requires.k_in_bounds.1), omega (arith, c.read_part4.auto, c.requires.k_in_bounds.2), omega (arith, c.read_part4.auto, c.requires.k_in_bounds.3))
+        put_numbers block starts from to tail few-yes c.read_pairs.ensures c.read_pairs-2.ensures (
+          c.read_part4.ensures,
+          omega (arith, c.read_pairs-2.auto, c.requires.k_in_bounds.1),
+          omega (arith, c.read_part4.auto, c.requires.k_in_bounds.2),
+          omega (arith, c.read_part4.auto, c.requires.k_in_bounds.3),
+        )
             c.requires.block_value.8 entries-fit-yes c.requires.by_index.3,
       );
       by_index = (
         c.args.k,
-        put_spans3 block starts from to tail few-yes c.read_pairs.ensures c.read_pairs-2.ensures
-            (c.read_part4.ensures, omega (arith, c.read_pairs-2.auto, c.requires.k_in_bounds.1), omega (arith, c.read_part4.auto, c.requires.k_in_bounds.2), omega (arith, c.read_part4.auto, c.requires.k_in_bounds.3))
+        put_spans3 block starts from to tail few-yes c.read_pairs.ensures c.read_pairs-2.ensures (
+          c.read_part4.ensures,
+          omega (arith, c.read_pairs-2.auto, c.requires.k_in_bounds.1),
+          omega (arith, c.read_part4.auto, c.requires.k_in_bounds.2),
+          omega (arith, c.read_part4.auto, c.requires.k_in_bounds.3),
+        )
             c.requires.block_value.8 entries-fit-yes c.requires.by_index.3,
         c.requires.block_value.2,
         c.requires.block_value.10,
@@ -149,17 +161,29 @@ put_part4-requires c =
         omega (arith, few4 tail few-yes, c.read_part4.auto, c.requires.k_in_bounds.2),
         omega (arith, few4 tail few-yes, c.read_part4.auto, c.requires.k_in_bounds.3),
         omega (arith, few4 tail few-yes, c.read_part4.auto, c.requires.k_in_bounds.4),
-        put_others block starts from to tail few-yes c.read_pairs.ensures c.read_pairs-2.ensures
-            (c.read_part4.ensures, omega (arith, c.read_pairs-2.auto, c.requires.k_in_bounds.1), omega (arith, c.read_part4.auto, c.requires.k_in_bounds.2), omega (arith, c.read_part4.auto, c.requires.k_in_bounds.3))
+        put_others block starts from to tail few-yes c.read_pairs.ensures c.read_pairs-2.ensures (
+          c.read_part4.ensures,
+          omega (arith, c.read_pairs-2.auto, c.requires.k_in_bounds.1),
+          omega (arith, c.read_part4.auto, c.requires.k_in_bounds.2),
+          omega (arith, c.read_part4.auto, c.requires.k_in_bounds.3),
+        )
             c.requires.block_value.8 entries-fit-yes c.requires.by_index.3,
-        put_labels block starts from to tail few-yes c.read_pairs.ensures c.read_pairs-2.ensures
-            (c.read_part4.ensures, omega (arith, c.read_pairs-2.auto, c.requires.k_in_bounds.1), omega (arith, c.read_part4.auto, c.requires.k_in_bounds.2), omega (arith, c.read_part4.auto, c.requires.k_in_bounds.3))
+        put_labels block starts from to tail few-yes c.read_pairs.ensures c.read_pairs-2.ensures (
+          c.read_part4.ensures,
+          omega (arith, c.read_pairs-2.auto, c.requires.k_in_bounds.1),
+          omega (arith, c.read_part4.auto, c.requires.k_in_bounds.2),
+          omega (arith, c.read_part4.auto, c.requires.k_in_bounds.3),
+        )
             c.requires.block_value.8 entries-fit-yes c.requires.by_index.3,
       );
       by_index = (
         c.args.k,
-        put_spans4 block starts from to tail few-yes c.read_pairs.ensures c.read_pairs-2.ensures
-            (c.read_part4.ensures, omega (arith, c.read_pairs-2.auto, c.requires.k_in_bounds.1), omega (arith, c.read_part4.auto, c.requires.k_in_bounds.2), omega (arith, c.read_part4.auto, c.requires.k_in_bounds.3))
+        put_spans4 block starts from to tail few-yes c.read_pairs.ensures c.read_pairs-2.ensures (
+          c.read_part4.ensures,
+          omega (arith, c.read_pairs-2.auto, c.requires.k_in_bounds.1),
+          omega (arith, c.read_part4.auto, c.requires.k_in_bounds.2),
+          omega (arith, c.read_part4.auto, c.requires.k_in_bounds.3),
+        )
             c.requires.block_value.8 entries-fit-yes c.requires.by_index.3,
         c.requires.block_value.2,
         omega (arith, c.put_part3.ensures.0.size, c.requires.block_value.10),
@@ -196,8 +220,12 @@ labels_fit-requires c =
         omega (arith, c.read_part4.auto, c.requires.k_in_bounds.2),
         omega (arith, c.read_part4.auto, c.requires.k_in_bounds.4),
       );
-      by_index = put_small block starts from to tail few-yes c.read_pairs.ensures c.read_pairs-2.ensures
-          (c.read_part4.ensures, omega (arith, c.read_pairs-2.auto, c.requires.k_in_bounds.1), omega (arith, c.read_part4.auto, c.requires.k_in_bounds.2), omega (arith, c.read_part4.auto, c.requires.k_in_bounds.3))
+      by_index = put_small block starts from to tail few-yes c.read_pairs.ensures c.read_pairs-2.ensures (
+        c.read_part4.ensures,
+        omega (arith, c.read_pairs-2.auto, c.requires.k_in_bounds.1),
+        omega (arith, c.read_part4.auto, c.requires.k_in_bounds.2),
+        omega (arith, c.read_part4.auto, c.requires.k_in_bounds.3),
+      )
           c.requires.block_value.8 entries-fit-yes c.requires.block_value.9 c.requires.block_value.5 c.requires.block_value.6
           c.put_part3.ensures.0 c.put_part4.ensures.0 c.put_part3.ensures.1 c.put_part4.ensures.1 c.requires.by_index.3;
     }
@@ -251,7 +279,11 @@ returns c =
     let tail = c.args.tail in
     let few-yes = sym c.few.ensures ∙ c.if-not-few.false in
     let entries-fit-yes = sym c.entries_fit.ensures ∙ c.if-not-entries_fit.false in
-    labels_tell block starts from to tail few-yes c.read_pairs.ensures c.read_pairs-2.ensures
-    (c.read_part4.ensures, omega (arith, c.read_pairs-2.auto, c.requires.k_in_bounds.1), omega (arith, c.read_part4.auto, c.requires.k_in_bounds.2), omega (arith, c.read_part4.auto, c.requires.k_in_bounds.3))
+    labels_tell block starts from to tail few-yes c.read_pairs.ensures c.read_pairs-2.ensures (
+      c.read_part4.ensures,
+      omega (arith, c.read_pairs-2.auto, c.requires.k_in_bounds.1),
+      omega (arith, c.read_part4.auto, c.requires.k_in_bounds.2),
+      omega (arith, c.read_part4.auto, c.requires.k_in_bounds.3),
+    )
     c.requires.block_value.8 entries-fit-yes c.requires.block_value.9 c.requires.block_value.5 c.requires.block_value.6
     c.put_part3.ensures.0 c.put_part4.ensures.0 c.put_part3.ensures.1 c.put_part4.ensures.1 c.requires.block_value.0 c.labels_fit.ensures

@@ -21,7 +21,8 @@ shape_of-indices-in_default c =
 pub returns-in_default : goal.returns-in_default
 returns-in_default c =
     let part = c.args.part in
-    reading_bad (pair part) (first_number part) (index part) c.loop-i.invariant.0 c.loop-i-test.true (no_first part _ _ (sym c.in_default.is ∙ c.read_first.ensures))
+    reading_bad (pair part) (first_number part) (index part) c.loop-i.invariant.0 c.loop-i-test.true
+    (no_first part _ _ (sym c.in_default.is ∙ c.read_first.ensures))
 
 pub shape_of-firsts-in_default-read_group : goal.shape_of-firsts-in_default-read_group
 shape_of-firsts-in_default-read_group c =

@@ -34,8 +34,10 @@ pub count_up-requires : goal.count_up-requires
 count_up-requires c =
     let sizes = c.args.sizes.now in
     let indices = c.args.indices.now in
-    let within = face_within sizes indices c.loop-e.e c.entry_index-i.ensures c.size_at-n.ensures c.requires.by_index.1 (omega arith) in
-    (omega (arith, within, c.loop-e.invariant.1.size, c.requires.by_index.4), (let h = c.requires.c_in_bounds.3 c.loop-e.e (omega arith) in omega (arith, h)))
+    let within = face_within sizes indices c.loop-e.e c.entry_index-i.ensures c.size_at-n.ensures c.requires.by_index.1 (omega arith) in (
+      omega (arith, within, c.loop-e.invariant.1.size, c.requires.by_index.4),
+      (let h = c.requires.c_in_bounds.3 c.loop-e.e (omega arith) in omega (arith, h)),
+    )
 
 pub loop-e-preserved : goal.loop-e-preserved
 loop-e-preserved c =

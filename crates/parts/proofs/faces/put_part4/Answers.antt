@@ -41,7 +41,9 @@ put_codes-requires c =
     let places = c.args.places.now in
     let within = face_within sizes indices c.loop-e.e c.entry_index-i.ensures c.size_at-n.ensures c.requires.by_index.1 (omega arith) in (
       omega (arith, within, c.loop-e.invariant.1.size, c.requires.by_index.4),
-      subst (LabelsThere message (get_or places c.loop-e.e 0)) (sym (face_size_is sizes indices c.loop-e.e c.entry_index-i.ensures c.size_at-n.ensures)) (c.requires.c_in_bounds.4 c.loop-e.e (omega arith)),
+      subst (LabelsThere message (get_or places c.loop-e.e 0))
+          (sym (face_size_is sizes indices c.loop-e.e c.entry_index-i.ensures c.size_at-n.ensures))
+          (c.requires.c_in_bounds.4 c.loop-e.e (omega arith)),
     )
 
 pub loop-e-preserved : goal.loop-e-preserved

@@ -40,8 +40,13 @@ returns-then-not-rank c =
     twice_no block n kinds links k c.put_values.ensures (sym c.rank.ensures.answer ∙ c.if-not-rank.true)
 
 pub all_clear-requires : goal.all_clear-requires
-all_clear-requires c =
-    (c.requires.n_in_bounds.0, c.requires.n_in_bounds.1, omega (arith, c.rank.auto, c.requires.k_in_bounds.1), c.requires.n_in_bounds.5, (c.rank.ensures.ranked c.if-not-rank.false).ascends)
+all_clear-requires c = (
+  c.requires.n_in_bounds.0,
+  c.requires.n_in_bounds.1,
+  omega (arith, c.rank.auto, c.requires.k_in_bounds.1),
+  c.requires.n_in_bounds.5,
+  (c.rank.ensures.ranked c.if-not-rank.false).ascends,
+)
 
 pub returns : goal.returns
 returns c =

@@ -34,4 +34,5 @@ returns c =
     let marks = c.args.marks.now in
     let k = c.args.k in
     let e = c.args.e in
-    fits_rest indices starts marks k e (omega (arith, c.entry_index-i.ensures, c.if-k-i.false)) (sym c.above.ensures ∙ c.if-not-above.false) c.entry_index-i.ensures c.index_at-start.ensures
+    fits_rest indices starts marks k e (omega (arith, c.entry_index-i.ensures, c.if-k-i.false)) (sym c.above.ensures ∙ c.if-not-above.false)
+    c.entry_index-i.ensures c.index_at-start.ensures

@@ -22,8 +22,10 @@ returns-then-not-fit c =
     second_no starts second third fourth k c2 c3 c4 (sym (part_told c.fit.ensures c.requires.0 (marks_none _ c.requires.5)) ∙ c.if-not-fit.true)
 
 pub mark-requires : goal.mark-requires
-mark-requires c =
-    (c.requires.0, λ e h. let r = told_below c.fit.ensures c.requires.0 (marks_none _ c.requires.5) c.if-not-fit.false e h in omega (arith, r, c.requires.4))
+mark-requires c = (
+  c.requires.0,
+  λ e h. let r = told_below c.fit.ensures c.requires.0 (marks_none _ c.requires.5) c.if-not-fit.false e h in omega (arith, r, c.requires.4),
+)
 
 pub fit-requires-2 : goal.fit-requires-2
 fit-requires-2 c =

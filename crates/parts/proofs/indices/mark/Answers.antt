@@ -11,8 +11,10 @@ bounds-marks-at c =
     omega (arith, c.loop-e.invariant.0.size, c.requires.1 c.loop-e.e (omega arith), c.entry_index-i.ensures)
 
 pub loop-e-preserved : goal.loop-e-preserved
-loop-e-preserved c =
-    (marking_more c.loop-e.invariant.0 c.entry_index-i.ensures (omega (arith, c.entry_index-i.ensures, c.requires.1 c.loop-e.e (omega arith))), omega arith)
+loop-e-preserved c = (
+  marking_more c.loop-e.invariant.0 c.entry_index-i.ensures (omega (arith, c.entry_index-i.ensures, c.requires.1 c.loop-e.e (omega arith))),
+  omega arith,
+)
 
 pub shape_of-marks : goal.shape_of-marks
 shape_of-marks c =

@@ -8,8 +8,14 @@ loop-p-init c =
     (located_none _ _ _ c.requires.5, omega arith, refl)
 
 pub note-requires : goal.note-requires
-note-requires c =
-    (omega (arith, c.requires.0), c.requires.2, c.requires.3, omega (arith, c.loop-p.invariant.2, c.requires.4), c.requires.6.ascends, c.requires.6.index_below)
+note-requires c = (
+  omega (arith, c.requires.0),
+  c.requires.2,
+  c.requires.3,
+  omega (arith, c.loop-p.invariant.2, c.requires.4),
+  c.requires.6.ascends,
+  c.requires.6.index_below,
+)
 
 pub loop-p-preserved : goal.loop-p-preserved
 loop-p-preserved c =

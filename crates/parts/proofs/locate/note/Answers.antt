@@ -48,5 +48,6 @@ returns c =
     let c' = c.args.c in
     let p' = c.args.p.0 in
     let places = c.args.places.now in
-    noted_found block keys c' p' places (ap is_critical_word (sym c.field.ensures) ∙ sym c.is_critical.ensures ∙ c.if-not-is_critical.false) c.requires.4 c.requires.3
+    noted_found block keys c' p' places (ap is_critical_word (sym c.field.ensures) ∙ sym c.is_critical.ensures ∙ c.if-not-is_critical.false)
+    c.requires.4 c.requires.3
     c.requires.5 (ap (rank_in (value_at keys) c') (sym c.field-2.ensures) ∙ sym c.find.ensures ∙ c.in-At.is)

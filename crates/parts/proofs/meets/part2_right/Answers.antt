@@ -60,7 +60,8 @@ shape_of-links-then-not-enter c =
 
 pub returns-then-not-enter : goal.returns-then-not-enter
 returns-then-not-enter c =
-    let entered = entered_at c.args.sizes.now c.args.places.now c.args.indices.now c.loop-e.e c.place_at-y.ensures c.entry_index-at.ensures c.size_at-size.ensures c.enter.ensures in
+    let entered = entered_at c.args.sizes.now c.args.places.now c.args.indices.now c.loop-e.e c.place_at-y.ensures c.entry_index-at.ensures
+    c.size_at-size.ensures c.enter.ensures in
     part2_no
     (passing_not (passes_at c.args.block.now c.args.draft.now c.args.ranks.now c.args.sizes.now c.args.places.now c.args.indices.now c.args.n c.args.from) c.loop-e.e c.args.c
     (omega arith)
@@ -72,7 +73,8 @@ overflow_add-e c =
 
 pub loop-e-preserved : goal.loop-e-preserved
 loop-e-preserved c =
-    let entered = entered_at c.args.sizes.now c.args.places.now c.args.indices.now c.loop-e.e c.place_at-y.ensures c.entry_index-at.ensures c.size_at-size.ensures c.enter.ensures in
+    let entered = entered_at c.args.sizes.now c.args.places.now c.args.indices.now c.loop-e.e c.place_at-y.ensures c.entry_index-at.ensures
+    c.size_at-size.ensures c.enter.ensures in
     let yes = c.if-not-enter.false in (
       seen_more c.loop-e.e c.loop-e.invariant.0 (entered.seen_are yes),
       faced_more c.requires.sewable.spans c.loop-e.invariant.1 (omega arith) (entered.kinds_are yes),

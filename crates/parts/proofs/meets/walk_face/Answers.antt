@@ -38,7 +38,8 @@ pub returns-then-p-first : goal.returns-then-p-first
 returns-then-p-first c =
     let R = round c.requires.0.few c.requires.0.next_within c.requires.0.next_apart _ c.requires.1 in
     let left : c.loop-i.i < length c.loop-i.trail = omega (arith, c.loop-i.invariant.1.size, c.requires.2) in
-    walked_back c.loop-i.i c.requires.2 (writing_end c.requires.0.next_within R c.loop-i.invariant.0 c.loop-i.invariant.1 left c.next_of-next.ensures c.if-p-first.true refl)
+    walked_back c.loop-i.i c.requires.2
+    (writing_end c.requires.0.next_within R c.loop-i.invariant.0 c.loop-i.invariant.1 left c.next_of-next.ensures c.if-p-first.true refl)
 
 pub loop-i-preserved : goal.loop-i-preserved
 loop-i-preserved c =

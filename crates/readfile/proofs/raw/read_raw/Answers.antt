@@ -24,7 +24,8 @@ returns-in_default-read_group c =
 pub returns-in_default-read_group-2 : goal.returns-in_default-read_group-2
 returns-in_default-read_group-2 c =
     raw_refused (no_count (limits_of c.args.limits) (took_at_most 15 (sym c.in-Value.is ∙ c.read_at_most.ensures))
-    (took_group (sym c.in-Value-read_group.is ∙ c.read_group.ensures)) (record { value = bad_at group _ _ (sym c.in_default-read_group-2.is ∙ c.read_group-2.ensures) }))
+    (took_group (sym c.in-Value-read_group.is ∙ c.read_group.ensures))
+    (record { value = bad_at group _ _ (sym c.in_default-read_group-2.is ∙ c.read_group-2.ensures) }))
 
 pub returns-then-limits-count : goal.returns-then-limits-count
 returns-then-limits-count c =
@@ -33,8 +34,10 @@ returns-then-limits-count c =
     (took_group (sym c.in-Value-read_group-2.is ∙ c.read_group-2.ensures)) c.if-limits-count.true)
 
 pub read_darts-requires : goal.read_darts-requires
-read_darts-requires c =
-    ((took_group (sym c.in-Value-read_group-2.is ∙ c.read_group-2.ensures)).within, omega (arith, zeros_length (words_of (limits_of c.args.limits)) _ c.requires))
+read_darts-requires c = (
+  (took_group (sym c.in-Value-read_group-2.is ∙ c.read_group-2.ensures)).within,
+  omega (arith, zeros_length (words_of (limits_of c.args.limits)) _ c.requires),
+)
 
 pub returns-in_default-read_darts : goal.returns-in_default-read_darts
 returns-in_default-read_darts c =

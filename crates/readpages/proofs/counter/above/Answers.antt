@@ -15,11 +15,13 @@ returns-then-is_sewn c =
 
 pub returns-then-maker_of-me : goal.returns-then-maker_of-me
 returns-then-maker_of-me c =
-    other_above _ _ _ _ (sym c.is_free.ensures ∙ c.if-is_free.false) (sym c.is_sewn.ensures ∙ c.if-is_sewn.false) c.maker_of.ensures c.if-maker_of-me.true
+    other_above _ _ _ _ (sym c.is_free.ensures ∙ c.if-is_free.false) (sym c.is_sewn.ensures ∙ c.if-is_sewn.false) c.maker_of.ensures
+    c.if-maker_of-me.true
 
 pub returns-then-number-c : goal.returns-then-number-c
 returns-then-number-c c =
-    lower_above _ _ _ _ (sym c.is_free.ensures ∙ c.if-is_free.false) (sym c.is_sewn.ensures ∙ c.if-is_sewn.false) c.maker_of.ensures c.if-maker_of-me.false c.number_of-number.ensures c.if-number-c.true
+    lower_above _ _ _ _ (sym c.is_free.ensures ∙ c.if-is_free.false) (sym c.is_sewn.ensures ∙ c.if-is_sewn.false) c.maker_of.ensures
+    c.if-maker_of-me.false c.number_of-number.ensures c.if-number-c.true
 
 pub overflow_add-result : goal.overflow_add-result
 overflow_add-result c =
@@ -27,4 +29,5 @@ overflow_add-result c =
 
 pub returns : goal.returns
 returns c =
-    number_above _ _ _ _ (sym c.is_free.ensures ∙ c.if-is_free.false) (sym c.is_sewn.ensures ∙ c.if-is_sewn.false) c.maker_of.ensures c.if-maker_of-me.false c.number_of-number.ensures c.if-number-c.false
+    number_above _ _ _ _ (sym c.is_free.ensures ∙ c.if-is_free.false) (sym c.is_sewn.ensures ∙ c.if-is_sewn.false) c.maker_of.ensures
+    c.if-maker_of-me.false c.number_of-number.ensures c.if-number-c.false

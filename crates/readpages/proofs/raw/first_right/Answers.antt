@@ -99,5 +99,7 @@ returns c =
     let hb : suc k < 2 ^ 32 = omega (arith, pre.0, pre.1) in
     let hc : total < 2 ^ 32 = omega (arith, pre.1) in
     let next : 1 + k ≡ suc k = omega arith in
-    first_made ha hb hc (told_yes c.column_is.ensures c.if-not-column_is.false) (stands_is (ap number_column next) (told_yes c.column_is-2.ensures c.if-not-column_is-2.false)) (told_yes c.column_is-3.ensures c.if-not-column_is-3.false) (told_yes c.blank.ensures c.if-not-blank.false)
+    first_made ha hb hc (told_yes c.column_is.ensures c.if-not-column_is.false)
+    (stands_is (ap number_column next) (told_yes c.column_is-2.ensures c.if-not-column_is-2.false))
+    (told_yes c.column_is-3.ensures c.if-not-column_is-3.false) (told_yes c.blank.ensures c.if-not-blank.false)
     (omega (arith, pre.0, pre.2))

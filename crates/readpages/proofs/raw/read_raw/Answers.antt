@@ -130,6 +130,7 @@ returns c =
     let bytes = byte_list s (λ i. (c.type_inv.s i).fits) in
     let stored = rw c.if-not-store_rows.false at c.store_rows.ensures in
     pages_read lim c.requires.0 s bytes refl column c.row_count-n.ensures
-    c.if-total-s.false (omega (arith, c.if-number-ge-BLOCKS.false)) (omega (arith, c.if-limits-n.false)) (told_yes c.fills.ensures c.if-not-fills.false)
+    c.if-total-s.false (omega (arith, c.if-number-ge-BLOCKS.false)) (omega (arith, c.if-limits-n.false))
+    (told_yes c.fills.ensures c.if-not-fills.false)
     (told_yes c.firsts_right.ensures c.if-not-firsts_right.false) (told_yes c.rest_blank.ensures c.if-not-rest_blank.false) stored.rows
     c.requires.1 stored.memory c.write.ensures

@@ -20,8 +20,11 @@ returns-then-not-blank_at c =
     rest_not _ _ _ _ c.loop-i.invariant.0 c.loop-i-test.true (told_no (rw c.row_place.ensures at c.blank_at.ensures) c.if-not-blank_at.true)
 
 pub loop-i-preserved : goal.loop-i-preserved
-loop-i-preserved c =
-    (omega (arith, c.loop-i.invariant.0), omega (arith, c.loop-i-test.true), rest_more c.loop-i.invariant.2 (told_yes (rw c.row_place.ensures at c.blank_at.ensures) c.if-not-blank_at.false))
+loop-i-preserved c = (
+  omega (arith, c.loop-i.invariant.0),
+  omega (arith, c.loop-i-test.true),
+  rest_more c.loop-i.invariant.2 (told_yes (rw c.row_place.ensures at c.blank_at.ensures) c.if-not-blank_at.false),
+)
 
 pub returns : goal.returns
 returns c =

@@ -33,18 +33,22 @@ returns-in_default-read_label c =
 
 pub overflow_sub-at : goal.overflow_sub-at
 overflow_sub-at c =
-    omega (arith, label_past c.args.at (rw c.in-Value.is at c.number_before.ensures) (rw c.in-Value-read_label.is at c.read_label.ensures) (omega (arith, c.if-other-ge-BLOCKS.false)))
+    omega
+    (arith, label_past c.args.at (rw c.in-Value.is at c.number_before.ensures) (rw c.in-Value-read_label.is at c.read_label.ensures) (omega (arith, c.if-other-ge-BLOCKS.false)))
 
 pub blank-requires : goal.blank-requires
 blank-requires c =
-    omega (arith, c.requires, label_past c.args.at (rw c.in-Value.is at c.number_before.ensures) (rw c.in-Value-read_label.is at c.read_label.ensures) (omega (arith, c.if-other-ge-BLOCKS.false)))
+    omega
+    (arith, c.requires, label_past c.args.at (rw c.in-Value.is at c.number_before.ensures) (rw c.in-Value-read_label.is at c.read_label.ensures) (omega (arith, c.if-other-ge-BLOCKS.false)))
 
 pub returns-then-not-blank : goal.returns-then-not-blank
 returns-then-not-blank c =
-    crit_other c.args.at (rw c.in-Value.is at c.number_before.ensures) (rw c.in-Value-read_label.is at c.read_label.ensures) (told_no c.blank.ensures c.if-not-blank.true)
+    crit_other c.args.at (rw c.in-Value.is at c.number_before.ensures) (rw c.in-Value-read_label.is at c.read_label.ensures)
+    (told_no c.blank.ensures c.if-not-blank.true)
 
 pub returns : goal.returns
 unfolding bytes
 returns c =
     crit_found c.args.at (rw c.in-Value.is at c.number_before.ensures) (rw c.in-Value-read_label.is at c.read_label.ensures)
-    (omega (arith, c.if-other-ge-BLOCKS.false)) (told_yes c.text_at.ensures c.if-not-text_at.false) (told_yes c.blank.ensures c.if-not-blank.false) c.critical_with.ensures
+    (omega (arith, c.if-other-ge-BLOCKS.false)) (told_yes c.text_at.ensures c.if-not-text_at.false) (told_yes c.blank.ensures c.if-not-blank.false)
+    c.critical_with.ensures

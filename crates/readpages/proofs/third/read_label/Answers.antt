@@ -21,20 +21,26 @@ returns-in_default-number_before c =
     no_number (rw c.in-Value.is at c.number_before.ensures) (rw c.in_default-number_before.is at c.number_before-2.ensures)
 
 pub number_before-requires-3 : goal.number_before-requires-3
-number_before-requires-3 c =
-    (omega (arith, c.requires, ended_past (rw c.in-Value.is at c.number_before.ensures), ended_past (rw c.in-Value-number_before.is at c.number_before-2.ensures)), blank_no_digit)
+number_before-requires-3 c = (
+  omega
+      (arith, c.requires, ended_past (rw c.in-Value.is at c.number_before.ensures), ended_past (rw c.in-Value-number_before.is at c.number_before-2.ensures)),
+  blank_no_digit,
+)
 
 pub returns-in_default-number_before-2 : goal.returns-in_default-number_before-2
 returns-in_default-number_before-2 c =
-    no_position (rw c.in-Value.is at c.number_before.ensures) (rw c.in-Value-number_before.is at c.number_before-2.ensures) (rw c.in_default-number_before-2.is at c.number_before-3.ensures)
+    no_position (rw c.in-Value.is at c.number_before.ensures) (rw c.in-Value-number_before.is at c.number_before-2.ensures)
+    (rw c.in_default-number_before-2.is at c.number_before-3.ensures)
 
 pub returns-then-maker-ge-BLOCKS : goal.returns-then-maker-ge-BLOCKS
 returns-then-maker-ge-BLOCKS c =
-    maker_large (rw c.in-Value.is at c.number_before.ensures) (rw c.in-Value-number_before.is at c.number_before-2.ensures) (rw c.in-Value-number_before-2.is at c.number_before-3.ensures) c.if-maker-ge-BLOCKS.true
+    maker_large (rw c.in-Value.is at c.number_before.ensures) (rw c.in-Value-number_before.is at c.number_before-2.ensures)
+    (rw c.in-Value-number_before-2.is at c.number_before-3.ensures) c.if-maker-ge-BLOCKS.true
 
 pub returns-then-position-ge-POSITIONS : goal.returns-then-position-ge-POSITIONS
 returns-then-position-ge-POSITIONS c =
-    position_large (rw c.in-Value.is at c.number_before.ensures) (rw c.in-Value-number_before.is at c.number_before-2.ensures) (rw c.in-Value-number_before-2.is at c.number_before-3.ensures) c.if-position-ge-POSITIONS.true
+    position_large (rw c.in-Value.is at c.number_before.ensures) (rw c.in-Value-number_before.is at c.number_before-2.ensures)
+    (rw c.in-Value-number_before-2.is at c.number_before-3.ensures) c.if-position-ge-POSITIONS.true
 
 pub code_of-requires : goal.code_of-requires
 code_of-requires c =
@@ -43,5 +49,6 @@ code_of-requires c =
 
 pub returns : goal.returns
 returns c =
-    label_found (rw c.in-Value.is at c.number_before.ensures) (rw c.in-Value-number_before.is at c.number_before-2.ensures) (rw c.in-Value-number_before-2.is at c.number_before-3.ensures)
+    label_found (rw c.in-Value.is at c.number_before.ensures) (rw c.in-Value-number_before.is at c.number_before-2.ensures)
+    (rw c.in-Value-number_before-2.is at c.number_before-3.ensures)
     (omega (arith, c.if-maker-ge-BLOCKS.false)) (omega (arith, c.if-position-ge-POSITIONS.false)) c.code_of.ensures

@@ -34,4 +34,5 @@ returns-then-not-blank c =
 pub returns : goal.returns
 unfolding bytes
 returns c =
-    sewn_found c.args.at (rw c.in-Value.is at c.number_before.ensures) (told_yes c.text_at.ensures c.if-not-text_at.false) (told_yes c.blank.ensures c.if-not-blank.false)
+    sewn_found c.args.at (rw c.in-Value.is at c.number_before.ensures) (told_yes c.text_at.ensures c.if-not-text_at.false)
+    (told_yes c.blank.ensures c.if-not-blank.false)

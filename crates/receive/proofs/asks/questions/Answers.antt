@@ -81,7 +81,11 @@ volume_right-requires c =
         omega (arith, c.if-limits-front.false, lent.marks_long),
         lent.marks_clear,
       );
-      ranked = (c.new_serials.ensures.ranked c.if-not-new_serials.false, finite_told c.new_serials.ensures c.if-not-new_serials.false, (c.requires.block_value.3.0, told));
+      ranked = (
+        c.new_serials.ensures.ranked c.if-not-new_serials.false,
+        finite_told c.new_serials.ensures c.if-not-new_serials.false,
+        (c.requires.block_value.3.0, told),
+      );
     }
 
 pub shape_of-keys-then-not-volume_right : goal.shape_of-keys-then-not-volume_right
@@ -117,7 +121,11 @@ parts_right-right-requires c =
         omega (arith, c.if-limits-front.false, lent.kinds_long),
         omega (arith, c.if-limits-front.false, lent.links_long),
       );
-      by_index = (c.args.vertex.now, c.args.serial.now, (new_volume c.new_serials.ensures c.if-not-new_serials.false c.volume_right.ensures.answer c.if-not-volume_right.false (c.volume_right.ensures.drafted c.if-not-volume_right.false) c.requires.block_value.3.2));
+      by_index = (
+        c.args.vertex.now,
+        c.args.serial.now,
+        (new_volume c.new_serials.ensures c.if-not-new_serials.false c.volume_right.ensures.answer c.if-not-volume_right.false (c.volume_right.ensures.drafted c.if-not-volume_right.false) c.requires.block_value.3.2),
+      );
       darts_in_bounds = (
         omega (arith, c.if-limits-front.false, c.new_serials.auto, c.volume_right.auto, lent.codes_long),
         omega (arith, c.if-limits-front.false, c.volume_right.auto, lent.indices_long),

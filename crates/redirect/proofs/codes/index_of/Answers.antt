@@ -26,7 +26,8 @@ pub loop-left-preserved : goal.loop-left-preserved
 loop-left-preserved c =
     elim c.if-codes-mid.branch [
       | then-codes-mid w ↦ rw w.low-is (halving_up c.requires.2 c.loop-left.invariant c.loop-left-test.true refl (omega (arith, w.if-codes-mid.true)))
-      | else-codes-mid w ↦ rw w.low-is (halving_down c.requires.2 c.loop-left.invariant c.loop-left-test.true refl (omega (arith, w.if-codes-mid.false)))
+      | else-codes-mid w ↦ rw w.low-is
+          (halving_down c.requires.2 c.loop-left.invariant c.loop-left-test.true refl (omega (arith, w.if-codes-mid.false)))
     ]
 
 pub offset_bounds-codes-low : goal.offset_bounds-codes-low

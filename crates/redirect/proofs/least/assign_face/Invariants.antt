@@ -11,7 +11,8 @@ use Rattle.redirect.proofs.least.assign_face.Given as goal
 
 abbrev pub invariant-loop-p : goal.invariant-loop-p
 invariant-loop-p l =
-    Going l.n (column l.block 1) l.first (length (cycle (column l.block 1) l.first)) l.steps l.p × Assigned l.number (path (column l.block 1) l.steps l.first) l.initial.table l.table
+    Going l.n (column l.block 1) l.first (length (cycle (column l.block 1) l.first)) l.steps l.p × Assigned l.number
+    (path (column l.block 1) l.steps l.first) l.initial.table l.table
 
 abbrev pub decreases-loop-p : goal.decreases-loop-p
 decreases-loop-p l =

@@ -10,7 +10,8 @@ use Rattle.redirect.proofs.least.face_code.Given as goal
 
 abbrev pub invariant-loop-p : goal.invariant-loop-p
 invariant-loop-p l =
-    Going l.n (column l.block 1) l.first (length (cycle (column l.block 1) l.first)) l.steps l.p × Lowest (column l.block 1) (column l.block 4) l.first l.steps l.least
+    Going l.n (column l.block 1) l.first (length (cycle (column l.block 1) l.first)) l.steps l.p × Lowest (column l.block 1) (column l.block 4)
+    l.first l.steps l.least
 
 abbrev pub decreases-loop-p : goal.decreases-loop-p
 decreases-loop-p l =

@@ -10,8 +10,12 @@ critical_with-word-requires c =
     omega arith
 
 pub loop-p-init : goal.loop-p-init
-loop-p-init c =
-    (indexing_start _ c.requires.n_in_bounds.0 c.requires.n_in_bounds.1, hitting_start _ c.requires.n_in_bounds.1 c.requires.n_in_bounds.3, refl, refl)
+loop-p-init c = (
+  indexing_start _ c.requires.n_in_bounds.0 c.requires.n_in_bounds.1,
+  hitting_start _ c.requires.n_in_bounds.1 c.requires.n_in_bounds.3,
+  refl,
+  refl,
+)
 
 pub field-requires : goal.field-requires
 field-requires c =
@@ -27,8 +31,13 @@ loop-p-preserved-then-field-word c =
     let block = c.args.block.now in
     let from = c.args.from in
     let codes = c.args.codes.now in
-    let c' = c.args.c in
-    (indexing_away c.loop-p.invariant.0 c.loop-p-test.true (index_away block from codes c' c.loop-p.p c.field.ensures (λ i. c.if-field-word.true (i ∙ sym c.critical_with-word.ensures))), c.loop-p.invariant.1, c.loop-p.invariant.2, c.loop-p.invariant.3)
+    let c' = c.args.c in (
+      indexing_away c.loop-p.invariant.0 c.loop-p-test.true
+          (index_away block from codes c' c.loop-p.p c.field.ensures (λ i. c.if-field-word.true (i ∙ sym c.critical_with-word.ensures))),
+      c.loop-p.invariant.1,
+      c.loop-p.invariant.2,
+      c.loop-p.invariant.3,
+    )
 
 pub offset_bounds-table-p : goal.offset_bounds-table-p
 offset_bounds-table-p c =
@@ -76,10 +85,13 @@ loop-p-preserved c =
     let from = c.args.from in
     let codes = c.args.codes.now in
     let c' = c.args.c in
-    let there = index_there block from codes c' c.loop-p.p c.field.ensures (c.if-field-word.false ∙ c.critical_with-word.ensures) c.face_code-code.ensures c.index_of-k.ensures in
+    let there = index_there block from codes c' c.loop-p.p c.field.ensures (c.if-field-word.false ∙ c.critical_with-word.ensures)
+    c.face_code-code.ensures c.index_of-k.ensures in
     let few = index_few codes c' c.face_code-code.result c.index_of-k.ensures in (
-      indexing_whole block c.requires.block_value.0 c.requires.block_value.1 from codes c' c.loop-p.invariant.0 c.loop-p-test.true there c.assign_face.ensures,
-      hitting_face c.loop-p.invariant.1 c.loop-p-test.true there (omega (arith, few, c.loop-p.invariant.3, c.requires.n_in_bounds.2)) c.assign_face.ensures,
+      indexing_whole block c.requires.block_value.0 c.requires.block_value.1 from codes c' c.loop-p.invariant.0 c.loop-p-test.true there
+          c.assign_face.ensures,
+      hitting_face c.loop-p.invariant.1 c.loop-p-test.true there (omega (arith, few, c.loop-p.invariant.3, c.requires.n_in_bounds.2))
+          c.assign_face.ensures,
       c.assign_face.ensures.size ∙ c.loop-p.invariant.2,
       simp length-set c.loop-p.invariant.3,
     )

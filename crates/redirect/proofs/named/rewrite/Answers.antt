@@ -19,8 +19,10 @@ loop-p-smaller-then-c-wide c =
     omega arith
 
 pub loop-p-preserved-then-c-wide : goal.loop-p-preserved-then-c-wide
-loop-p-preserved-then-c-wide c =
-    (omega (arith, c.loop-p-test.true), rewriting_skip c.args.table.now c.args.c c.loop-p.invariant.1 (omega (arith, c.if-c-wide.true, c.wide.ensures)))
+loop-p-preserved-then-c-wide c = (
+  omega (arith, c.loop-p-test.true),
+  rewriting_skip c.args.table.now c.args.c c.loop-p.invariant.1 (omega (arith, c.if-c-wide.true, c.wide.ensures)),
+)
 
 pub put_field-requires : goal.put_field-requires
 put_field-requires c =

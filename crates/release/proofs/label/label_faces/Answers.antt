@@ -29,15 +29,18 @@ offset_bounds-order-i c =
 
 pub bounds-order-i : goal.bounds-order-i
 bounds-order-i c =
-    omega (arith, (starting c.requires.0 c.requires.1 c.loop-f.f c.loop-f-test.true).index_lt, (order_few c.requires.0 c.requires.1).0, c.requires.1.out_size)
+    omega
+    (arith, (starting c.requires.0 c.requires.1 c.loop-f.f c.loop-f-test.true).index_lt, (order_few c.requires.0 c.requires.1).0, c.requires.1.out_size)
 
 pub overflow_add-f : goal.overflow_add-f
 overflow_add-f c =
     omega (arith, c.loop-f-test.true, (order_few c.requires.0 c.requires.1).1)
 
 pub field-requires : goal.field-requires
-field-requires c =
-    (omega (arith, (starting c.requires.0 c.requires.1 c.loop-f.f c.loop-f-test.true).below, c.loop-f.invariant.same.size, c.requires.0.size), omega arith)
+field-requires c = (
+  omega (arith, (starting c.requires.0 c.requires.1 c.loop-f.f c.loop-f-test.true).below, c.loop-f.invariant.same.size, c.requires.0.size),
+  omega arith,
+)
 
 pub loop-f-smaller-then-not-is_sewn : goal.loop-f-smaller-then-not-is_sewn
 loop-f-smaller-then-not-is_sewn c =
@@ -53,14 +56,17 @@ label_face-requires c =
       sewing_stays c.requires.0 c.loop-f.invariant.same,
       s.below,
       s.inside,
-      sym c.field.ensures ∙ one c.requires.0 c.requires.1 c.loop-f-test.true c.loop-f.invariant c.field.ensures (sym c.is_sewn.ensures ∙ c.if-not-is_sewn.false),
+      sym c.field.ensures ∙ one c.requires.0 c.requires.1 c.loop-f-test.true c.loop-f.invariant c.field.ensures
+          (sym c.is_sewn.ensures ∙ c.if-not-is_sewn.false),
       c.requires.2,
-      omega (arith, number_fits c.requires.0 c.requires.1 c.loop-f-test.true c.loop-f.invariant c.field.ensures (sym c.is_sewn.ensures ∙ c.if-not-is_sewn.false), c.requires.3),
+      omega
+          (arith, number_fits c.requires.0 c.requires.1 c.loop-f-test.true c.loop-f.invariant c.field.ensures (sym c.is_sewn.ensures ∙ c.if-not-is_sewn.false), c.requires.3),
     )
 
 pub overflow_add-number : goal.overflow_add-number
 overflow_add-number c =
-    omega (arith, number_fits c.requires.0 c.requires.1 c.loop-f-test.true c.loop-f.invariant c.field.ensures (sym c.is_sewn.ensures ∙ c.if-not-is_sewn.false), c.requires.3)
+    omega
+    (arith, number_fits c.requires.0 c.requires.1 c.loop-f-test.true c.loop-f.invariant c.field.ensures (sym c.is_sewn.ensures ∙ c.if-not-is_sewn.false), c.requires.3)
 
 pub loop-f-smaller : goal.loop-f-smaller
 loop-f-smaller c =
@@ -68,7 +74,8 @@ loop-f-smaller c =
 
 pub loop-f-preserved : goal.loop-f-preserved
 loop-f-preserved c =
-    face_one c.requires.0 c.requires.1 c.loop-f-test.true c.loop-f.invariant c.field.ensures (sym c.is_sewn.ensures ∙ c.if-not-is_sewn.false) c.label_face.ensures.same c.label_face.ensures.labelled
+    face_one c.requires.0 c.requires.1 c.loop-f-test.true c.loop-f.invariant c.field.ensures (sym c.is_sewn.ensures ∙ c.if-not-is_sewn.false)
+    c.label_face.ensures.same c.label_face.ensures.labelled
 
 pub shape_of-block : goal.shape_of-block
 shape_of-block c =

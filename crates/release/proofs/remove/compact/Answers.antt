@@ -24,7 +24,8 @@ move_record-requires c =
 
 pub overflow_add-w : goal.overflow_add-w
 overflow_add-w c =
-    omega (arith, count_le c.loop-i.invariant.1 (omega (arith, c.loop-i-test.true, c.requires.0.few, c.requires.0.size)), c.loop-i-test.true, c.requires.0.few)
+    omega
+    (arith, count_le c.loop-i.invariant.1 (omega (arith, c.loop-i-test.true, c.requires.0.few, c.requires.0.size)), c.loop-i-test.true, c.requires.0.few)
 
 pub overflow_add-i : goal.overflow_add-i
 overflow_add-i c =
@@ -42,7 +43,8 @@ loop-i-preserved c =
     let fits : 8 + (c.loop-i.i + 1) * 8 ≤ length block = omega (arith, c.loop-i-test.true, c.requires.0.few, c.requires.0.size) in (
       omega arith,
       elim c.if-marks-i-ne1.branch [
-        | then-marks-i-ne1 a ↦ moved_one v fits a.if-marks-i-ne1.true (length_moved _ _ _) (one_move c.requires.0 table c.requires.3 v c.loop-i-test.true)
+        | then-marks-i-ne1 a ↦ moved_one v fits a.if-marks-i-ne1.true (length_moved _ _ _)
+            (one_move c.requires.0 table c.requires.3 v c.loop-i-test.true)
             (a.block-is ∙ a.move_record.ensures) a.w-is
         | else-marks-i-ne1 a ↦ moved_none v fits a.if-marks-i-ne1.false a.block-is a.w-is
       ],

@@ -16,8 +16,10 @@ overflow_add-kept c =
 pub clear_part-requires : goal.clear_part-requires
 clear_part-requires c =
     let block = c.args.block.now in
-    let marks = c.args.marks.now in
-    (omega (arith, c.compact-kept.ensures.count, rank_le (get_or block 2 0) marks), omega (arith, c.compact-kept.ensures.len, c.requires.bounded.0.size, c.requires.bounded.0.few))
+    let marks = c.args.marks.now in (
+      omega (arith, c.compact-kept.ensures.count, rank_le (get_or block 2 0) marks),
+      omega (arith, c.compact-kept.ensures.len, c.requires.bounded.0.size, c.requires.bounded.0.few),
+    )
 
 pub returns : goal.returns
 returns c =

@@ -13,4 +13,5 @@ returns-then-mesh-b c =
     let b = c.args.b in
     let message = c.args.message.now in
     let lim = limits_in c.args.viewers b in
-    nowhere c.args.viewers mesh b (receiving message) (λ l x. receive l x message) c.if-mesh-b.true (receive_does message) (size_refused lim _ _ (none_sized lim))
+    nowhere c.args.viewers mesh b (receiving message) (λ l x. receive l x message) c.if-mesh-b.true (receive_does message)
+    (size_refused lim _ _ (none_sized lim))

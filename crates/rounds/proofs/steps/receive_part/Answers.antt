@@ -17,4 +17,5 @@ returns c =
     let b = c.args.b in
     let message = c.args.message.now in
     let m = c.args.mesh.now in
-    stepped c.args.viewers m c.receive.last.0 b _ _ (receiving message) (λ l x. receive l x message) _ refl c.own_words.ensures c.requires c.mesh-1.given.0 (receive_does message) c.receive.ensures
+    stepped c.args.viewers m c.receive.new.block b _ _ (receiving message) (λ l x. receive l x message) _ refl c.own_words.ensures c.requires
+    refl (receive_does message) c.receive.ensures

@@ -13,4 +13,5 @@ returns-then-mesh-b c =
     let b = c.args.b in
     let message = c.args.message.now in
     let lim = limits_in c.args.viewers b in
-    nowhere c.args.viewers mesh b (redirecting message) (λ l x. redirect l x message) c.if-mesh-b.true (redirect_does message) (size_refused lim _ _ (none_sized lim))
+    nowhere c.args.viewers mesh b (redirecting message) (λ l x. redirect l x message) c.if-mesh-b.true (redirect_does message)
+    (size_refused lim _ _ (none_sized lim))

@@ -17,4 +17,5 @@ returns c =
     let b = c.args.b in
     let message = c.args.message.now in
     let m = c.args.mesh.now in
-    stepped c.args.viewers m c.redirect.last.0 b _ _ (redirecting message) (λ l x. redirect l x message) _ refl c.own_words.ensures c.requires c.mesh-1.given.0 (redirect_does message) c.redirect.ensures
+    stepped c.args.viewers m c.redirect.new.block b _ _ (redirecting message) (λ l x. redirect l x message) _ refl c.own_words.ensures c.requires
+    refl (redirect_does message) c.redirect.ensures

@@ -14,4 +14,5 @@ returns-then-mesh-b c =
     let to = c.args.to in
     let serial = c.args.serial in
     let lim = limits_in c.args.viewers b in
-    nowhere c.args.viewers mesh b (releasing to serial) (λ l x. release l x to serial) c.if-mesh-b.true (release_does to serial) (size_refused _ _ _ lim (none_sized lim))
+    nowhere c.args.viewers mesh b (releasing to serial) (λ l x. release l x to serial) c.if-mesh-b.true (release_does to serial)
+    (size_refused _ _ _ lim (none_sized lim))

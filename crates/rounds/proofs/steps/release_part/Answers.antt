@@ -18,4 +18,5 @@ returns c =
     let to = c.args.to in
     let serial = c.args.serial in
     let m = c.args.mesh.now in
-    stepped c.args.viewers m c.release.last.0 b _ _ (releasing to serial) (λ l x. release l x to serial) _ refl c.own_words.ensures c.requires c.mesh-1.given.0 (release_does to serial) c.release.ensures
+    stepped c.args.viewers m c.release.new.block b _ _ (releasing to serial) (λ l x. release l x to serial) _ refl c.own_words.ensures c.requires
+    refl (release_does to serial) c.release.ensures

@@ -15,7 +15,8 @@ put_links-past_links-requires c =
       c.requires.0.serial_small,
       c.requires.0.next_small,
       c.requires.0.opposite_small,
-      omega (arith, c.requires.1, dart_length block p', link_length (column block 0 p') (column block 0 (column block 1 p')) (column block 0 (column block 2 p'))),
+      omega
+          (arith, c.requires.1, dart_length block p', link_length (column block 0 p') (column block 0 (column block 1 p')) (column block 0 (column block 2 p'))),
     )
 
 pub put_third-past_third-requires : goal.put_third-past_third-requires
@@ -35,7 +36,8 @@ put_point-requires c =
     let s = rw (c.field-serial.ensures, c.serial_along-next.ensures, c.serial_along-opposite.ensures) at c.put_links-past_links.ensures in
     let t = rw (c.field-kind.ensures, c.third_along.ensures) at c.put_third-past_third.ensures in (
       point_fine block p' c.requires.0.finite_here c.point_at.ensures,
-      omega (arith, c.requires.1, dart_length block p', link_length (column block 0 p') (column block 0 (column block 1 p')) (column block 0 (column block 2 p')), s.past, t.past),
+      omega
+          (arith, c.requires.1, dart_length block p', link_length (column block 0 p') (column block 0 (column block 1 p')) (column block 0 (column block 2 p')), s.past, t.past),
     )
 
 pub returns : goal.returns

@@ -13,18 +13,29 @@ use Rattle.send.proofs.messages.put_both.Goals as goal
 
 pub put_transfer-past-requires : goal.put_transfer-past-requires
 put_transfer-past-requires c =
-    record { block_value = c.requires.block_value; surveyed = c.requires.surveyed; to_le_last_block = c.requires.to_le_last_block; transfer_sized = (c.requires.transfer_sized.0, omega (arith, c.requires.transfer_sized.0.small)) }
+    record {
+      block_value = c.requires.block_value;
+      surveyed = c.requires.surveyed;
+      to_le_last_block = c.requires.to_le_last_block;
+      transfer_sized = (c.requires.transfer_sized.0, omega (arith, c.requires.transfer_sized.0.small));
+    }
 
 pub slice_bounds-rest-count : goal.slice_bounds-rest-count
 slice_bounds-rest-count c =
-    omega (arith, stored_length c.put_transfer-past.ensures, c.put_transfer-past.ensures.past, c.requires.transfer_sized.0.whole_is, c.requires.faces_in_bounds)
+    omega
+    (arith, stored_length c.put_transfer-past.ensures, c.put_transfer-past.ensures.past, c.requires.transfer_sized.0.whole_is, c.requires.faces_in_bounds)
 
 pub put_updates-requires : goal.put_updates-requires
 put_updates-requires c =
     let m = c.args.block.now in
     let ok = c.requires.block_value in
     let v = c.requires.surveyed in
-    record { block_value = (ok, c.requires.to_le_last_block.0); darts_listed = (listed m ok v, started m ok v); shares = c.requires.transfer_sized.1; faces_in_bounds = rest_room c.put_transfer-past.ensures _ (omega (arith, c.requires.transfer_sized.0.whole_is, c.requires.faces_in_bounds)) }
+    record {
+      block_value = (ok, c.requires.to_le_last_block.0);
+      darts_listed = (listed m ok v, started m ok v);
+      shares = c.requires.transfer_sized.1;
+      faces_in_bounds = rest_room c.put_transfer-past.ensures _ (omega (arith, c.requires.transfer_sized.0.whole_is, c.requires.faces_in_bounds));
+    }
 
 pub overflow_add-result : goal.overflow_add-result
 overflow_add-result c =

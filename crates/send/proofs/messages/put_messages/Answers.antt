@@ -13,7 +13,10 @@ pub updates_size-more-requires : goal.updates_size-more-requires
 updates_size-more-requires c =
     let m = c.args.block.now in
     let ok = c.requires.block_value in
-    record { darts_listed = (listed m ok c.requires.surveyed, started m ok c.requires.surveyed); block_bound = ((ranges_in m ok).number_small, c.requires.to_le_last_block.0, c.requires.labels_value.0, c.requires.labels_value.1) }
+    record {
+      darts_listed = (listed m ok c.requires.surveyed, started m ok c.requires.surveyed);
+      block_bound = ((ranges_in m ok).number_small, c.requires.to_le_last_block.0, c.requires.labels_value.0, c.requires.labels_value.1);
+    }
 
 pub overflow_add-sizes : goal.overflow_add-sizes
 overflow_add-sizes c =
@@ -29,7 +32,13 @@ returns-then-outbox-sizes c =
 
 pub put_both-n-requires : goal.put_both-n-requires
 put_both-n-requires c =
-    record { block_value = c.requires.block_value; surveyed = c.requires.surveyed; to_le_last_block = c.requires.to_le_last_block; transfer_sized = (c.transfer_sizes-sizes.ensures, c.updates_size-more.ensures.2); faces_in_bounds = omega (arith, c.if-outbox-sizes.false, c.updates_size-more.ensures.0) }
+    record {
+      block_value = c.requires.block_value;
+      surveyed = c.requires.surveyed;
+      to_le_last_block = c.requires.to_le_last_block;
+      transfer_sized = (c.transfer_sizes-sizes.ensures, c.updates_size-more.ensures.2);
+      faces_in_bounds = omega (arith, c.if-outbox-sizes.false, c.updates_size-more.ensures.0);
+    }
 
 pub returns : goal.returns
 returns c =

@@ -6,12 +6,22 @@ use Rattle.send.proofs.volume.send_volume.Goals as goal
 
 pub leaves-requires : goal.leaves-requires
 leaves-requires c =
-    record { block_value = (c.requires.block_len.2, c.requires.block_len.3); block_in_bounds = c.requires.block_in_bounds; block_in_bounds_2 = c.requires.block_in_bounds_2; block_in_bounds_3 = c.requires.block_in_bounds_3 }
+    record {
+      block_value = (c.requires.block_len.2, c.requires.block_len.3);
+      block_in_bounds = c.requires.block_in_bounds;
+      block_in_bounds_2 = c.requires.block_in_bounds_2;
+      block_in_bounds_3 = c.requires.block_in_bounds_3;
+    }
 
 pub put_messages-requires : goal.put_messages-requires
 put_messages-requires c =
     let d = departs_told c.args.limits.volume c.args.block.now c.args.to c.args.serial _ _ _ _ _ c.leaves.ensures.answer c.in-Volume.is in
-    record { block_value = c.requires.block_len.2; surveyed = d.survey; to_le_last_block = (d.to_block, d.counter_fits); labels_value = c.requires.labels_value }
+    record {
+      block_value = c.requires.block_len.2;
+      surveyed = d.survey;
+      to_le_last_block = (d.to_block, d.counter_fits);
+      labels_value = c.requires.labels_value;
+    }
 
 pub returns-in-Refused : goal.returns-in-Refused
 returns-in-Refused c =

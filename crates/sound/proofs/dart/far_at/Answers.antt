@@ -27,7 +27,8 @@ same_at-s-requires c =
 
 pub returns-then-not-c-p : goal.returns-then-not-c-p
 returns-then-not-c-p c =
-    far_stop _ 0 _ c.field.ensures c.field-2.ensures c.field-k.ensures c.field-c.ensures c.field-j.ensures c.field-3.ensures c.same_at-s.ensures c.if-not-c-p.true
+    far_stop _ 0 _ c.field.ensures c.field-2.ensures c.field-k.ensures c.field-c.ensures c.field-j.ensures c.field-3.ensures c.same_at-s.ensures
+    c.if-not-c-p.true
 
 pub returns-then-not-is_sewn : goal.returns-then-not-is_sewn
 returns-then-not-is_sewn c =

@@ -24,7 +24,8 @@ returns-then-not-same_at c =
 
 pub returns-then-not-is_sewn : goal.returns-then-not-is_sewn
 returns-then-not-is_sewn c =
-    point_only _ 0 _ c.field.ensures c.field-2.ensures c.same_at.ensures c.if-not-same_at.false c.field-k.ensures (sym c.is_sewn.ensures ∙ c.if-not-is_sewn.true)
+    point_only _ 0 _ c.field.ensures c.field-2.ensures c.same_at.ensures c.if-not-same_at.false c.field-k.ensures
+    (sym c.is_sewn.ensures ∙ c.if-not-is_sewn.true)
 
 pub field-requires-4 : goal.field-requires-4
 field-requires-4 c =

@@ -27,4 +27,5 @@ sewn_at-requires c =
 pub returns : goal.returns
 returns c =
     let sewn = sym c.is_sewn.ensures ∙ c.if-not-is_sewn.false in
-    sewn_go _ _ _ c.field.ensures c.field-k.ensures c.field-j.ensures c.if-j-k.false sewn c.field-l.ensures c.field-z.ensures c.if-not-l-n.false c.sewn_at.ensures
+    sewn_go _ _ _ c.field.ensures c.field-k.ensures c.field-j.ensures c.if-j-k.false sewn c.field-l.ensures c.field-z.ensures c.if-not-l-n.false
+    c.sewn_at.ensures

@@ -15,11 +15,14 @@ finite_at-requires c =
 
 pub returns-then-not-finite_at : goal.returns-then-not-finite_at
 returns-then-not-finite_at c =
-    going_no c.loop-i.invariant.0 (omega (arith, c.loop-i-test.true, c.loop-i.invariant.1)) c.finite_at.ensures c.if-not-finite_at.true ∙ finite_is c.args.block.now
+    going_no c.loop-i.invariant.0 (omega (arith, c.loop-i-test.true, c.loop-i.invariant.1)) c.finite_at.ensures c.if-not-finite_at.true ∙ finite_is
+    c.args.block.now
 
 pub loop-i-preserved : goal.loop-i-preserved
-loop-i-preserved c =
-    (going_more c.loop-i.invariant.0 (omega (arith, c.loop-i-test.true, c.loop-i.invariant.1)) c.finite_at.ensures c.if-not-finite_at.false, c.loop-i.invariant.1)
+loop-i-preserved c = (
+  going_more c.loop-i.invariant.0 (omega (arith, c.loop-i-test.true, c.loop-i.invariant.1)) c.finite_at.ensures c.if-not-finite_at.false,
+  c.loop-i.invariant.1,
+)
 
 pub returns : goal.returns
 returns c =

@@ -14,8 +14,13 @@ returns-then-not-own_labels c =
     and_stop _ (sym c.own_labels.ensures ∙ c.if-not-own_labels.true) ∙ labels_are _ c.requires.block_in_bounds.1
 
 pub labels_differ-requires : goal.labels_differ-requires
-labels_differ-requires c =
-    (c.requires.block_in_bounds.1.few, c.requires.block_in_bounds.0, c.requires.block_in_bounds_2.0, c.requires.block_in_bounds_2.1, c.requires.block_in_bounds_2.2)
+labels_differ-requires c = (
+  c.requires.block_in_bounds.1.few,
+  c.requires.block_in_bounds.0,
+  c.requires.block_in_bounds_2.0,
+  c.requires.block_in_bounds_2.1,
+  c.requires.block_in_bounds_2.2,
+)
 
 pub returns : goal.returns
 returns c =

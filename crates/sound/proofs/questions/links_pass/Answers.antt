@@ -36,8 +36,10 @@ bounds-seen-a-in-loop-i c =
 
 pub loop-i-preserved : goal.loop-i-preserved
 loop-i-preserved c =
-    let lt = link_below _ _ _ c.link_at.ensures c.if-not-link_at.false in
-    (passing_more c.loop-i.invariant.0 c.loop-i-test.true c.link_at.ensures c.if-not-link_at.false lt c.field-a.ensures c.if-seen-a-ne0.false, length-set c.loop-i.seen _ _ ∙ c.loop-i.invariant.1)
+    let lt = link_below _ _ _ c.link_at.ensures c.if-not-link_at.false in (
+      passing_more c.loop-i.invariant.0 c.loop-i-test.true c.link_at.ensures c.if-not-link_at.false lt c.field-a.ensures c.if-seen-a-ne0.false,
+      length-set c.loop-i.seen _ _ ∙ c.loop-i.invariant.1,
+    )
 
 pub shape_of-seen : goal.shape_of-seen
 shape_of-seen c =

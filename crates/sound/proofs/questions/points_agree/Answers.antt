@@ -26,9 +26,12 @@ returns-then-not-points_at c =
     ∙ points_agreeing _ c.requires.1 c.requires.3 c.requires.4
 
 pub loop-i-preserved : goal.loop-i-preserved
-loop-i-preserved c =
-    (going_more c.loop-i.invariant.0 (omega (arith, c.loop-i-test.true, c.loop-i.invariant.1)) c.points_at.ensures c.if-not-points_at.false, c.loop-i.invariant.1)
+loop-i-preserved c = (
+  going_more c.loop-i.invariant.0 (omega (arith, c.loop-i-test.true, c.loop-i.invariant.1)) c.points_at.ensures c.if-not-points_at.false,
+  c.loop-i.invariant.1,
+)
 
 pub returns : goal.returns
 returns c =
-    going_end c.loop-i.invariant.0 (omega (arith, c.loop-i-test.false, c.loop-i.invariant.1)) ∙ points_agreeing _ c.requires.1 c.requires.3 c.requires.4
+    going_end c.loop-i.invariant.0 (omega (arith, c.loop-i-test.false, c.loop-i.invariant.1)) ∙ points_agreeing _ c.requires.1 c.requires.3
+    c.requires.4

@@ -19,7 +19,8 @@ third_at-requires c = (
 
 pub returns-then-not-third_at : goal.returns-then-not-third_at
 returns-then-not-third_at c =
-    rw c.loop-i.invariant.1 at (going_no c.loop-i.invariant.0 c.loop-i-test.true c.third_at.ensures c.if-not-third_at.true) ∙ thirds_are _ c.requires.1 c.requires.2
+    rw c.loop-i.invariant.1 at (going_no c.loop-i.invariant.0 c.loop-i-test.true c.third_at.ensures c.if-not-third_at.true) ∙ thirds_are _
+    c.requires.1 c.requires.2
 
 pub loop-i-preserved : goal.loop-i-preserved
 loop-i-preserved c =

@@ -26,7 +26,8 @@ offset_bounds-out-i c =
 
 pub bounds-out-i : goal.bounds-out-i
 bounds-out-i c =
-    omega (arith, (first_dart c.requires.0 c.requires.1 c.loop-f.f c.loop-f-test.true).0, (order_few c.requires.0 c.requires.1).0, c.requires.0.few, c.requires.1.out_size)
+    omega
+    (arith, (first_dart c.requires.0 c.requires.1 c.loop-f.f c.loop-f-test.true).0, (order_few c.requires.0 c.requires.1).0, c.requires.0.few, c.requires.1.out_size)
 
 pub overflow_add-f : goal.overflow_add-f
 overflow_add-f c =

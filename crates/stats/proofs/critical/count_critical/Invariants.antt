@@ -11,7 +11,8 @@ use Rattle.stats.proofs.critical.count_critical.Given as goal
 
 abbrev pub invariant-loop-f : goal.invariant-loop-f
 invariant-loop-f l =
-    (l.f ≤ l.count) × (l.critical ≤ l.f) × (l.critical ≡ length (keep (λ w. critical_at l.block (start_of w)) (take l.f (faces (column l.block 1) (tab (λ p. p) l.n)))))
+    (l.f ≤ l.count) × (l.critical ≤ l.f) ×
+    (l.critical ≡ length (keep (λ w. critical_at l.block (start_of w)) (take l.f (faces (column l.block 1) (tab (λ p. p) l.n)))))
 
 abbrev pub decreases-loop-f : goal.decreases-loop-f
 decreases-loop-f l =

@@ -17,7 +17,11 @@ scanned_order-order-requires c =
     let m = c.args.block.now in
     let ok = c.requires in
     let linked = (sited m ok).linked in
-    record { linked = (linked, ones_long linked.few, all_closed linked, all_count (get_or m 2 0) linked.few); low_le_n = (omega arith, λ q h one. omega arith); n_in_bounds = (zeros_long _ room refl linked.few, zeros_long _ room refl linked.few, zeros_long _ room refl linked.few, zeros_clear room refl) }
+    record {
+      linked = (linked, ones_long linked.few, all_closed linked, all_count (get_or m 2 0) linked.few);
+      low_le_n = (omega arith, λ q h one. omega arith);
+      n_in_bounds = (zeros_long _ room refl linked.few, zeros_long _ room refl linked.few, zeros_long _ room refl linked.few, zeros_clear room refl);
+    }
 
 pub count_critical-requires : goal.count_critical-requires
 count_critical-requires c =

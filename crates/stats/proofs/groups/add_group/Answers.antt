@@ -28,8 +28,12 @@ overflow_add-head c =
 
 pub enter_links-end-requires : goal.enter_links-end-requires
 enter_links-end-requires c =
-    let w = c.loop-head.invariant.2 _ _ c.requires.queued.0 c.enter-end.ensures in
-    (c.requires.joined.0, going_place c.requires.joined.0 c.args.third c.requires.joined.1 c.requires.joined.2 c.requires.queued.0 w c.loop-head-test.true, c.requires.joined.2, w.queue)
+    let w = c.loop-head.invariant.2 _ _ c.requires.queued.0 c.enter-end.ensures in (
+      c.requires.joined.0,
+      going_place c.requires.joined.0 c.args.third c.requires.joined.1 c.requires.joined.2 c.requires.queued.0 w c.loop-head-test.true,
+      c.requires.joined.2,
+      w.queue,
+    )
 
 pub loop-head-smaller : goal.loop-head-smaller
 loop-head-smaller c =
@@ -40,7 +44,8 @@ pub loop-head-preserved : goal.loop-head-preserved
 loop-head-preserved c = (
   omega (arith, c.enter_links-end.auto, c.loop-head.invariant.0),
   omega (arith, c.enter_links-end.auto, c.loop-head.invariant.1),
-  λ G o q x. going_step c.requires.joined.0 c.args.third c.requires.joined.1 c.requires.joined.2 q (c.loop-head.invariant.2 G o q x) c.loop-head-test.true
+  λ G o q x. going_step c.requires.joined.0 c.args.third c.requires.joined.1 c.requires.joined.2 q (c.loop-head.invariant.2 G o q x)
+      c.loop-head-test.true
       c.enter_links-end.ensures,
 )
 
@@ -57,6 +62,7 @@ returns c =
     let w = c.loop-head.invariant.2 _ _ c.requires.queued.0 c.enter-end.ensures in
     record {
       queue = w.queue;
-      assigned = going_assigned c.requires.joined.0 c.args.third c.requires.joined.1 c.requires.joined.2 c.requires.queued.0 c.requires.queued.1 c.requires.queued.2
+      assigned = going_assigned c.requires.joined.0 c.args.third c.requires.joined.1 c.requires.joined.2 c.requires.queued.0 c.requires.queued.1
+          c.requires.queued.2
           w c.loop-head-test.false (omega (arith, c.enter-end.auto, c.loop-head.invariant.1));
     }

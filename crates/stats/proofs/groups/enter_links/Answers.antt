@@ -50,4 +50,5 @@ returns c =
     let pn = c.requires.1 in
     let gp = c.requires.2 in
     let q = c.requires.3 in
-    links_entered j c.args.third pn gp q c.field.ensures c.enter-with_next.ensures c.field-2.ensures c.enter-with_opposite.ensures c.third_link-c.ensures c.enter.ensures
+    links_entered j c.args.third pn gp q c.field.ensures c.enter-with_next.ensures c.field-2.ensures c.enter-with_opposite.ensures
+    c.third_link-c.ensures c.enter.ensures

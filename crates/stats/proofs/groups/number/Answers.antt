@@ -47,7 +47,10 @@ overflow_add-count c =
 
 pub add_group-tail-requires : goal.add_group-tail-requires
 add_group-tail-requires c =
-    record { joined = (c.requires.joined.0, c.loop-p-test.true, omega arith); queued = (c.loop-p.invariant.0.queue, c.loop-p.invariant.0.shut, c.if-groups-p-ne0.false) }
+    record {
+      joined = (c.requires.joined.0, c.loop-p-test.true, omega arith);
+      queued = (c.loop-p.invariant.0.queue, c.loop-p.invariant.0.shut, c.if-groups-p-ne0.false);
+    }
 
 pub overflow_add-p-in-loop-p : goal.overflow_add-p-in-loop-p
 overflow_add-p-in-loop-p c =
@@ -59,7 +62,8 @@ loop-p-smaller c =
 
 pub loop-p-preserved : goal.loop-p-preserved
 loop-p-preserved c = (
-  through_new c.requires.joined.0 c.loop-p.invariant.0 c.loop-p-test.true c.if-groups-p-ne0.false c.add_group-tail.ensures.queue c.add_group-tail.ensures.assigned,
+  through_new c.requires.joined.0 c.loop-p.invariant.0 c.loop-p-test.true c.if-groups-p-ne0.false c.add_group-tail.ensures.queue
+      c.add_group-tail.ensures.assigned,
   omega (arith, c.add_group-tail.auto, c.loop-p.invariant.1),
   length-set c.loop-p.firsts _ _ ∙ c.loop-p.invariant.2,
   omega (arith, c.add_group-tail.auto, c.loop-p.invariant.3),

@@ -8,7 +8,8 @@ use Rattle.stats.proofs.groups.number.Given as goal
 
 abbrev pub invariant-loop-p : goal.invariant-loop-p
 invariant-loop-p l =
-    Through l.third l.block l.groups l.firsts l.order l.count l.tail l.p × (length l.groups ≡ length l.initial.groups) × (length l.firsts ≡ length l.initial.firsts) × (length l.order ≡ length l.initial.order)
+    Through l.third l.block l.groups l.firsts l.order l.count l.tail l.p × (length l.groups ≡ length l.initial.groups) ×
+    (length l.firsts ≡ length l.initial.firsts) × (length l.order ≡ length l.initial.order)
 
 abbrev pub decreases-loop-p : goal.decreases-loop-p
 decreases-loop-p l =

@@ -10,7 +10,10 @@ pub number-requires : goal.number-requires
 number-requires c =
     let j = joined c.args.block.now c.requires in
     let few = j.linked.few in
-    record { joined = (j, zeros_long _ room refl few, zeros_clear room refl); block_in_bounds = (zeros_long _ room refl few, zeros_long _ room refl few) }
+    record {
+      joined = (j, zeros_long _ room refl few, zeros_clear room refl);
+      block_in_bounds = (zeros_long _ room refl few, zeros_long _ room refl few);
+    }
 
 pub returns : goal.returns
 returns c =

@@ -17,7 +17,10 @@ pub number-count-requires : goal.number-count-requires
 number-count-requires c =
     let j = joined c.args.block.now (sym c.is_sound.ensures ∙ c.if-not-is_sound.false) in
     let few = j.linked.few in
-    record { joined = (j, zeros_long _ room refl few, zeros_clear room refl); block_in_bounds = (zeros_long _ room refl few, zeros_long _ room refl few) }
+    record {
+      joined = (j, zeros_long _ room refl few, zeros_clear room refl);
+      block_in_bounds = (zeros_long _ room refl few, zeros_long _ room refl few);
+    }
 
 pub overflow_mul-count : goal.overflow_mul-count
 overflow_mul-count c =

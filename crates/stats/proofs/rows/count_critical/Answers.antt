@@ -29,7 +29,8 @@ loop-f-smaller-then-not-is_critical c =
 
 pub loop-f-preserved-then-not-is_critical : goal.loop-f-preserved-then-not-is_critical
 loop-f-preserved-then-not-is_critical c =
-    faces_skip c.requires.count_started.0 c.loop-f.invariant c.loop-f-test.true c.start_at-p.ensures (sym c.is_critical.ensures ∙ c.if-not-is_critical.true)
+    faces_skip c.requires.count_started.0 c.loop-f.invariant c.loop-f-test.true c.start_at-p.ensures
+    (sym c.is_critical.ensures ∙ c.if-not-is_critical.true)
 
 pub border_word-requires : goal.border_word-requires
 border_word-requires c =
@@ -47,7 +48,8 @@ add_one-requires c =
     let below = face_below c.requires.count_started.0 c.loop-f.invariant c.loop-f-test.true c.start_at-p.ensures in
     let other = c.requires.count_started.1 _ below (sym c.is_critical.ensures ∙ c.if-not-is_critical.false) in
     let few = faces_few c.requires.count_started.0 c.loop-f.invariant in
-    add_ready c.requires.linked.1 c.requires.linked.0.few below c.loop-f.invariant.counted few c.border_word.result _ (omega (arith, c.border_word.ensures)) c.word_at.ensures
+    add_ready c.requires.linked.1 c.requires.linked.0.few below c.loop-f.invariant.counted few c.border_word.result _
+    (omega (arith, c.border_word.ensures)) c.word_at.ensures
 
 pub loop-f-smaller : goal.loop-f-smaller
 loop-f-smaller c =
@@ -58,7 +60,8 @@ loop-f-preserved c =
     let below = face_below c.requires.count_started.0 c.loop-f.invariant c.loop-f-test.true c.start_at-p.ensures in
     let yes-critical = sym c.is_critical.ensures ∙ c.if-not-is_critical.false in
     let other = c.requires.count_started.1 _ below yes-critical in
-    let there = word_there c.requires.linked.1 c.requires.linked.0.few below c.border_word.result _ (omega (arith, c.border_word.ensures)) c.word_at.ensures in
+    let there = word_there c.requires.linked.1 c.requires.linked.0.few below c.border_word.result _ (omega (arith, c.border_word.ensures))
+    c.word_at.ensures in
     faces_more c.requires.count_started.0 c.loop-f.invariant c.loop-f-test.true c.start_at-p.ensures yes-critical
     (c.word_at.ensures ∙ ap (λ (j : ℕ). cell_word c.args.numbers.now j c.start_at-p.result.0) c.border_word.ensures) there c.add_one.ensures
 

@@ -11,17 +11,23 @@ loop-f-init c =
     faces_start _ _ _ _ _
 
 pub start_at-p-requires : goal.start_at-p-requires
-start_at-p-requires c =
-    (omega (arith, c.requires.count_started.few), omega (arith, c.requires.count_started.starts_there), c.requires.count_started.index_below _ c.loop-f-test.true, c.requires.count_started.index_there _ c.loop-f-test.true)
+start_at-p-requires c = (
+  omega (arith, c.requires.count_started.few),
+  omega (arith, c.requires.count_started.starts_there),
+  c.requires.count_started.index_below _ c.loop-f-test.true,
+  c.requires.count_started.index_there _ c.loop-f-test.true,
+)
 
 pub word_at-requires : goal.word_at-requires
 word_at-requires c =
-    word_ready c.requires.linked.1 c.requires.linked.0.few (face_below c.requires.count_started c.loop-f.invariant c.loop-f-test.true c.start_at-p.ensures) 2 (omega arith)
+    word_ready c.requires.linked.1 c.requires.linked.0.few
+    (face_below c.requires.count_started c.loop-f.invariant c.loop-f-test.true c.start_at-p.ensures) 2 (omega arith)
 
 pub add_one-requires : goal.add_one-requires
 add_one-requires c =
     let below = face_below c.requires.count_started c.loop-f.invariant c.loop-f-test.true c.start_at-p.ensures in
-    add_ready c.requires.linked.1 c.requires.linked.0.few below c.loop-f.invariant.counted (faces_few c.requires.count_started c.loop-f.invariant) 2 _ (omega arith) c.word_at.ensures
+    add_ready c.requires.linked.1 c.requires.linked.0.few below c.loop-f.invariant.counted (faces_few c.requires.count_started c.loop-f.invariant) 2 _
+    (omega arith) c.word_at.ensures
 
 pub overflow_add-f : goal.overflow_add-f
 overflow_add-f c =

@@ -9,16 +9,19 @@ use Rattle.writepages.proofs.line.put_row.Goals as goal
 pub put_numbers-past_numbers-requires : goal.put_numbers-past_numbers-requires
 put_numbers-past_numbers-requires c =
     let small = c.requires.0 in
-    rw (c.field-serial.ensures, c.serial_along-next.ensures, c.serial_along-opposite.ensures) (small.serial_small, small.next_small, small.opposite_small, omega (arith, c.requires.1))
+    rw (c.field-serial.ensures, c.serial_along-next.ensures, c.serial_along-opposite.ensures)
+    (small.serial_small, small.next_small, small.opposite_small, omega (arith, c.requires.1))
 
 pub put_blanks-past_gap-requires : goal.put_blanks-past_gap-requires
 put_blanks-past_gap-requires c =
-    omega (arith, c.requires.1, c.put_numbers-past_numbers.ensures.past, numbers_wide c.requires.0 c.field-serial.ensures c.serial_along-next.ensures c.serial_along-opposite.ensures)
+    omega
+    (arith, c.requires.1, c.put_numbers-past_numbers.ensures.past, numbers_wide c.requires.0 c.field-serial.ensures c.serial_along-next.ensures c.serial_along-opposite.ensures)
 
 pub put_third_column-past_third-requires : goal.put_third_column-past_third-requires
 put_third_column-past_third-requires c = (
   rw (c.field-kind.ensures, c.third_along.ensures) c.requires.0.third_small,
-  omega (arith, c.requires.1, c.put_numbers-past_numbers.ensures.past, numbers_wide c.requires.0 c.field-serial.ensures c.serial_along-next.ensures c.serial_along-opposite.ensures, c.put_blanks-past_gap.ensures.past),
+  omega
+      (arith, c.requires.1, c.put_numbers-past_numbers.ensures.past, numbers_wide c.requires.0 c.field-serial.ensures c.serial_along-next.ensures c.serial_along-opposite.ensures, c.put_blanks-past_gap.ensures.past),
 )
 
 pub put_byte-requires : goal.put_byte-requires

@@ -11,8 +11,10 @@ loop-i-init c =
 
 pub put_line-past-requires : goal.put_line-past-requires
 put_line-past-requires c =
-    let block = c.args.block.now in
-    (c.requires.0, place_next (lines_from block c.args.first) 81 page_rows (line_wide block c.requires.0 c.args.first) c.loop-i.invariant c.loop-i-test.true)
+    let block = c.args.block.now in (
+      c.requires.0,
+      place_next (lines_from block c.args.first) 81 page_rows (line_wide block c.requires.0 c.args.first) c.loop-i.invariant c.loop-i-test.true,
+    )
 
 pub loop-i-preserved : goal.loop-i-preserved
 loop-i-preserved c =

@@ -14,7 +14,8 @@ loop-k-init c =
 pub put_page-past-requires : goal.put_page-past-requires
 put_page-past-requires c =
     let block = c.args.block.now in
-    let next = place_next (page (paged (block_in block))) 4860 c.args.pages (page_wide block c.requires.0 c.requires.1) c.loop-k.invariant c.loop-k-test.true in
+    let next = place_next (page (paged (block_in block))) 4860 c.args.pages (page_wide block c.requires.0 c.requires.1) c.loop-k.invariant
+    c.loop-k-test.true in
     (c.requires.0, c.requires.1, c.loop-k-test.true, next)
 
 pub loop-k-preserved : goal.loop-k-preserved
