@@ -1,6 +1,6 @@
 -- `store::disk::any` meets its contract. The measure is what is left of the list. Assumes nothing.
-use Prim.Native.Nat.{◌-◌, ◌≤◌}
-use lib.ListN.{length}
+use Rattle.std.proofs.Common.{◌-◌, ◌≤◌}
+use Rattle.std.proofs.Common.{length}
 use Rattle.store.proofs.disk.any.Given as goal
 
 abbrev pub invariant-loop-i : goal.invariant-loop-i

@@ -1,7 +1,7 @@
 -- `store::disk::new_files` meets its contract. The loop's invariant: the array keeps its length. The measure is what is left of sixteen blocks. Assumes nothing.
-use mathlib.Core.Path.{◌≡◌}
-use Prim.Native.Nat.{◌-◌, ◌≤◌}
-use lib.ListN.{length}
+use Rattle.std.proofs.Common.{◌≡◌}
+use Rattle.std.proofs.Common.{◌-◌, ◌≤◌}
+use Rattle.std.proofs.Common.{length}
 use Rattle.store.proofs.disk.new_files.Given as goal
 
 abbrev pub invariant-loop-b : goal.invariant-loop-b

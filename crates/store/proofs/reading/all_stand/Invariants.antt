@@ -1,5 +1,5 @@
 -- `store::reading::all_stand` meets its contract. The measure is how many blocks are left of sixteen. Assumes nothing.
-use Prim.Native.Nat.{◌-◌, ◌≤◌}
+use Rattle.std.proofs.Common.{◌-◌, ◌≤◌}
 use Rattle.store.proofs.reading.all_stand.Given as goal
 
 abbrev pub invariant-loop-b : goal.invariant-loop-b

@@ -1,7 +1,7 @@
 -- `store::reading::look_again` meets its contract. The loop keeps the lengths; the measure is how many tries are left. Assumes nothing.
-use mathlib.Core.Path.{◌≡◌}
-use Prim.Native.Nat.{◌-◌, ◌≤◌}
-use lib.ListN.{length}
+use Rattle.std.proofs.Common.{◌≡◌}
+use Rattle.std.proofs.Common.{◌-◌, ◌≤◌}
+use Rattle.std.proofs.Common.{length}
 use Rattle.store.proofs.reading.look_again.Given as goal
 
 abbrev pub invariant-loop-tries : goal.invariant-loop-tries

@@ -1,5 +1,5 @@
 -- `store::reading::next_there` meets its contract. The measure is how many blocks are left of sixteen. Assumes nothing.
-use Prim.Native.Nat.{◌-◌, ◌≤◌}
+use Rattle.std.proofs.Common.{◌-◌, ◌≤◌}
 use Rattle.store.proofs.reading.next_there.Given as goal
 
 abbrev pub invariant-loop-b : goal.invariant-loop-b

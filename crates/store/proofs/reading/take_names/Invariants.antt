@@ -1,7 +1,7 @@
 -- `store::reading::take_names` meets its contract. The loop keeps the lengths; the measure is how many blocks are left of sixteen. Assumes nothing.
-use mathlib.Core.Path.{◌≡◌}
-use Prim.Native.Nat.{◌-◌, ◌≤◌}
-use lib.ListN.{length}
+use Rattle.std.proofs.Common.{◌≡◌}
+use Rattle.std.proofs.Common.{◌-◌, ◌≤◌}
+use Rattle.std.proofs.Common.{length}
 use Rattle.store.proofs.reading.take_names.Given as goal
 
 abbrev pub invariant-loop-b : goal.invariant-loop-b
