@@ -1,5 +1,4 @@
--- `console::comparing::first_difference` meets its contract. The loop's invariant: both places lie in their listings. The measure is what is left of the first.
--- Assumes nothing.
+-- `console::comparing::first_difference` meets its contract. Assumes nothing.
 use Rattle.std.proofs.Common.{◌-◌, arith}
 use Rattle.console.proofs.comparing.first_difference.Goals as goal
 
