@@ -1,5 +1,7 @@
 // Plays the script on standard input: calls on small blocks and meshes, right ones and wrong ones, and what each of them gives.
 // The line of a call has the words of memory and the bytes that are lent to it, then its numbers.
+#![tactic(auto)]
+
 use answers::{Answer, Written};
 use balance::nextmove;
 use balance::nextmove::Balance;

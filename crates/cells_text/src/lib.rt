@@ -1,4 +1,6 @@
 // The cells of a block, a line for each: least serial, darts, faces, critical faces by the other block, mean of the corners.
+#![tactic(auto)]
+
 use corners::Mean;
 use corners::thousandths::Thousandths;
 use stats::rows::Told;

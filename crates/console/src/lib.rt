@@ -1,4 +1,6 @@
 // What a person on duty writes and reads: the words of a command, lists of requests, what is told of a basin.
+#![tactic(auto)]
+
 pub mod arguments; // arguments.rt: the words of a command
 pub mod comparing; // comparing.rt: two listings, line by line
 pub mod inspect; // inspect.rt: what is told of a basin

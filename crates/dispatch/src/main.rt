@@ -1,4 +1,6 @@
 // One program for the desk and for the restart: it keeps a basin as block files in the folder that it is run in.
+#![tactic(auto)]
+
 mod block; // block.rt: one block, from its file or from pages
 mod status; // status.rt: how a command ended
 mod tasks; // tasks.rt: what is done to a basin, and saved

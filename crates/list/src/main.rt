@@ -1,4 +1,5 @@
 // Lists the block file on standard input, of at most 65,536 bytes.
+#![tactic(auto)]
 
 fn main() {
     let mut file = [0u8; 65537];

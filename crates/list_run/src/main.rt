@@ -1,4 +1,6 @@
 // Lists the files on standard input one after the other, each behind its length in four bytes, as the listing program would.
+#![tactic(auto)]
+
 use vectors::cursor;
 
 // A line with the file's number, then its listing.

@@ -1,6 +1,8 @@
 // Balances the meshes on standard input to the end: for each the number of blocks, the viewers, the blocks' files behind their lengths, the
 // oracle, its axis and its six floats. Prints the picked volumes of every block, the moves, how they end, the picked volumes then and a digest of
 // every block.
+#![tactic(auto)]
+
 use memory::header::Header;
 use oracle::Oracle;
 use rebalance::Ending;

@@ -1,5 +1,7 @@
 // Plays the requests on standard input, mesh after mesh: the number of blocks, the viewers, the blocks' files behind their lengths, the
 // number of requests, the requests. Prints each round's outcome and a digest of every block after it.
+#![tactic(auto)]
+
 use memory::header::Header;
 use rounds::Outcome;
 use vectors::{cursor, meshes};

@@ -1,23 +1,22 @@
 -- The commit, word by word: how it is put and read. Assumes nothing.
 use mathlib.Core.Path.{◌≡◌, refl, sym, ap, ◌∙◌}
-use mathlib.Core.Bool.{true, false, cond, ◌&&◌}
+use mathlib.Core.Bool.{true, ◌&&◌}
 use mathlib.Core.List.{List, [], ◌∷◌, ◌++◌, append_assoc, append-nil}
 use mathlib.Core.Logic.{◌⊎◌, inl, inr}
-use mathlib.Core.Option.{some}
-use Prim.Native.Nat.{ℕ, zero, suc, ◌+◌, ◌*◌, ◌-◌, ◌/◌, ◌%◌, ◌^◌, ◌<◌, ◌≤◌}
+use Prim.Native.Nat.{ℕ, zero, suc, ◌+◌, ◌*◌, ◌%◌, ◌^◌, ◌<◌, ◌≤◌}
 use native.Mathlib.Nat.{eq-or-lt_of_le, le_of_suc-le-suc}
 use native.Mathlib.Omega.{arith}
 use lib.Dec.{ltb, leb, eqb}
 use lib.ListN.{length, get_or, drop, length-append}
 use lib.Seq.{drop_at}
-use borrow.Author.Tests.{lt-ltb, le-ltb, le-leb, lt-leb, eq-eqb, ne_eqb, leb-true}
+use borrow.Author.Tests.{lt-ltb, le-leb, lt-leb, eq-eqb, ne_eqb, leb-true}
 use Rattle.model.specs.Lists.{tab, concat_map}
 use Rattle.model.specs.Layouts.{coordinate}
 use Rattle.laws.proofs.Lists.{drop_at_cons, drop_end}
 use Rattle.laws.proofs.Tests.{by_cases, and_left, and_right}
 use Rattle.theory.proofs.LayoutLaws.{coordinate_lawful}
 use Rattle.groups.specs.declared.Read.{Read}
-use Rattle.groups.specs.declared.Read.TheVariants.{Value, Bad}
+use Rattle.groups.specs.declared.Read.TheVariants.{Bad}
 use Rattle.groups.specs.Slices.{Stored, read_at}
 use Rattle.groups.proofs.Coordinates.{coordinate_length, coordinate_short}
 use Rattle.groups.proofs.Writing.{stored_then}

@@ -1,20 +1,18 @@
 -- The commit of a mesh, put into a room as a whole or not at all. Assumes nothing.
 use mathlib.Core.Path.{◌≡◌, refl, sym, ap, ◌∙◌}
-use mathlib.Core.Bool.{Bool, true, false, ◌&&◌}
+use mathlib.Core.Bool.{Bool, true, false}
 use mathlib.Core.List.{List, ◌++◌}
 use mathlib.Core.Option.{Option, none, some}
-use Prim.Native.Nat.{ℕ, ◌+◌, ◌*◌, ◌/◌, ◌≤◌, ◌<◌}
+use Prim.Native.Nat.{ℕ, ◌+◌, ◌*◌, ◌≤◌, ◌<◌}
 use native.Mathlib.Omega.{arith}
-use lib.Dec.{leb, ltb}
 use lib.ListN.{length, take, drop}
 use borrow.Author.Tests.{lt-ltb, le-ltb, le-leb, lt-leb}
 use Rattle.model.specs.Lists.{tab}
-use Rattle.columns.specs.Columns.{all_below}
 use Rattle.mesh.specs.Parts.{block_count}
 use Rattle.commands.specs.declared.names.File.TheVariants as files
 use Rattle.saving.specs.declared.prepare.Made.TheVariants as made
 use Rattle.saving.specs.Commit.{entry_of, commit_of}
-use Rattle.saving.specs.Prepare.{act_when, savable, file_of, all_savable, contents, fitting, left_by, made_of, StepPut, BlockEntered}
+use Rattle.saving.specs.Prepare.{act_when, file_of, all_savable, contents, fitting, left_by, made_of, StepPut, BlockEntered}
 use Rattle.saving.proofs.Contents.{put_none}
 use Rattle.saving.proofs.Entering.{commit_length}
 

@@ -2,25 +2,24 @@
 use mathlib.Core.Path.{◌≡◌, refl, sym, ap, ◌∙◌}
 use mathlib.Core.Bool.{Bool, true, false, cond, ◌&&◌}
 use mathlib.Core.List.{List, [], ◌∷◌, ◌++◌}
-use mathlib.Core.Option.{Option, none, some}
-use Prim.Native.Nat.{ℕ, ◌+◌, ◌*◌, ◌-◌, ◌/◌, ◌≤◌, ◌<◌}
+use mathlib.Core.Option.{Option, none}
+use Prim.Native.Nat.{ℕ, ◌*◌, ◌-◌, ◌/◌, ◌≤◌}
 use native.Mathlib.Omega.{arith}
 use lib.Dec.{leb, eqb}
-use lib.ListN.{length, get_or, take, drop, length-drop, length-take, length-append}
+use lib.ListN.{length, take, drop, length-drop, length-take, length-append}
 use lib.Seq.{take-append_seam, length-take-le, take-take}
-use borrow.Author.Tests.{eqb-true, ne_eqb, le-leb, lt-leb, leb-true}
+use borrow.Author.Tests.{eqb-true, ne_eqb, le-leb, leb-true}
 use Rattle.model.specs.Lists.{Check, first_no}
 use Rattle.model.specs.Values.{rack}
-use Rattle.model.specs.Layouts.{group_count}
 use Rattle.model.specs.Image.{words, block_in, holds_block, memory_checks}
 use Rattle.model.specs.Messages.{file}
-use Rattle.model.specs.Calls.{Answer, served, refused, asked, writing, save_file}
-use Rattle.laws.proofs.Tests.{by_cases, and_left, and_right, yes_first}
+use Rattle.model.specs.Calls.{served, refused, asked, writing, save_file}
+use Rattle.laws.proofs.Tests.{by_cases, yes_first}
 use Rattle.answers.specs.declared.Written.{Written}
 use Rattle.answers.specs.declared.Written.TheVariants as written
-use Rattle.answers.specs.Answers.{Gives, written_of, question}
+use Rattle.answers.specs.Answers.{Gives, written_of}
 use Rattle.savefile.proofs.WholeFile.{file_most}
-use Rattle.mesh.specs.Parts.{block_count, part}
+use Rattle.mesh.specs.Parts.{part}
 use Rattle.commands.specs.declared.names.File.TheVariants as files
 use Rattle.saving.specs.declared.prepare.Made.{Made}
 use Rattle.saving.specs.declared.prepare.Made.TheVariants as made

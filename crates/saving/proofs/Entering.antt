@@ -1,12 +1,12 @@
 -- The commit of a mesh, put entry by entry. Assumes nothing.
 use mathlib.Core.Path.{◌≡◌, refl, sym, ap, ◌∙◌}
 use mathlib.Core.Bool.{Bool, true, false, true≢false, cond}
-use mathlib.Core.List.{List, [], ◌∷◌, ◌++◌}
-use Prim.Native.Nat.{ℕ, zero, suc, ◌+◌, ◌*◌, ◌-◌, ◌≤◌, ◌<◌}
+use mathlib.Core.List.{List, ◌++◌}
+use Prim.Native.Nat.{ℕ, ◌+◌, ◌*◌, ◌-◌, ◌≤◌, ◌<◌}
 use native.Mathlib.Omega.{arith}
 use lib.ListN.{length, take, drop, length-append}
 use lib.Seq.{sets-eq, take-append_seam}
-use Rattle.model.specs.Lists.{tab, concat_map}
+use Rattle.model.specs.Lists.{tab}
 use Rattle.model.specs.Layouts.{coordinate}
 use Rattle.laws.proofs.Tables.{length_tab}
 use Rattle.columns.specs.Columns.{all_below}

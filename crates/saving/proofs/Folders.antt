@@ -10,7 +10,6 @@ use lib.ListN.{length, get_or}
 use Rattle.laws.proofs.Members.{Each}
 use Rattle.laws.proofs.Tests.{lt_or_ge, or_false}
 use Rattle.commands.specs.declared.names.File.{File}
-use Rattle.commands.specs.declared.names.File.TheVariants as file
 use Rattle.commands.specs.Names.{same_name, is_basins}
 use Rattle.commands.proofs.NameLaws.{one_file, names_tell}
 use Rattle.saving.specs.declared.plan.Step.{Step}

@@ -1,13 +1,12 @@
 -- What a recovery looks at: the files that a save cut anywhere leaves look right, and so do those that recoveries cut anywhere leave; where
 -- they look right, what is seen has the committed length and digest. Assumes nothing.
 use mathlib.Core.Path.{◌≡◌, refl, sym, ap, subst, ◌∙◌}
-use mathlib.Core.Bool.{Bool, true, false, cond, ◌&&◌}
+use mathlib.Core.Bool.{Bool, true, false, cond}
 use mathlib.Core.List.{List}
-use mathlib.Core.Logic.{◌⊎◌, inl, inr, ⊎_elim}
+use mathlib.Core.Logic.{inl, inr, ⊎_elim}
 use mathlib.Core.Option.{Option, none, some, none-ne-some, some-injective}
 use Prim.Native.Nat.{ℕ, ◌≤◌, ◌<◌}
 use native.Mathlib.Omega.{arith}
-use lib.Dec.{eqb, ltb}
 use borrow.Author.Tests.{lt-ltb, eq-eqb}
 use Rattle.laws.proofs.Tests.{and_intro, by_cases}
 use Rattle.commands.specs.declared.names.File.TheVariants as file
@@ -17,9 +16,9 @@ use Rattle.saving.specs.declared.look.Found.TheVariants as found
 use Rattle.saving.specs.declared.look.Look.TheVariants as look
 use Rattle.saving.specs.Commit.{entry_of, entry_in}
 use Rattle.saving.specs.Looks.{same_entry, look_of, file_found, look_found}
-use Rattle.saving.specs.Folder.{Folder, blocks_of, first_of, seen, found_in, bytes_of, looked, LooksRight, AsCommitted}
+use Rattle.saving.specs.Folder.{Folder, blocks_of, first_of, seen, found_in, bytes_of, LooksRight, AsCommitted}
 use Rattle.saving.proofs.Commits.{committed_few}
-use Rattle.saving.proofs.Seen.{Sees, Rest, Held}
+use Rattle.saving.proofs.Seen.{Held}
 
 blocks_few : (x : Option (List ℕ)) → blocks_of x ≤ 16
 blocks_few none = omega arith

@@ -1,5 +1,5 @@
 -- What a step hands to the disk, kind by kind. Assumes nothing.
-use mathlib.Core.Path.{◌≡◌, refl, sym, ap, ◌∙◌}
+use mathlib.Core.Path.{◌≡◌, refl, ◌∙◌}
 use mathlib.Core.List.{List}
 use mathlib.Core.Option.{Option, none, some}
 use Prim.Native.Nat.{ℕ}
@@ -15,7 +15,7 @@ use Rattle.saving.specs.declared.prepare.Made.{Made}
 use Rattle.saving.specs.declared.prepare.Made.TheVariants as made
 use Rattle.saving.specs.declared.prepare.Act.TheVariants as act
 use Rattle.saving.specs.declared.prepare.Deed.{Deed}
-use Rattle.saving.specs.Prepare.{contents, fitting, left_by, deed_of, made_of, StepPut, Prepared}
+use Rattle.saving.specs.Prepare.{contents, fitting, deed_of, made_of, StepPut, Prepared}
 use Rattle.saving.proofs.Contents.{put_none}
 
 -- a file in its place and the commit are never written

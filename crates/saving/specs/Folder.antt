@@ -16,7 +16,7 @@ use Rattle.saving.specs.declared.look.Found.{Found}
 use Rattle.saving.specs.declared.look.Found.TheVariants as found
 use Rattle.saving.specs.declared.look.Look.{Look}
 use Rattle.saving.specs.declared.look.Look.TheVariants as look
-use Rattle.saving.specs.Plan.{plan_steps, write_steps, committing, placing, ending, save_stages, recover_stages}
+use Rattle.saving.specs.Plan.{plan_steps, placing, ending, save_stages, recover_stages}
 use Rattle.saving.specs.Commit.{entry_of, commit_of, committed, entry_in}
 use Rattle.saving.specs.Looks.{same_entry, look_of}
 

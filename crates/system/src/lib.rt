@@ -1,4 +1,6 @@
 // What the programs ask of the machine: text printed, files read and written whole, processes, one writer at a time.
+#![tactic(auto)]
+
 pub mod say; // say.rt: what is printed
 pub mod text; // text.rt: texts in lent bytes
 pub mod process; // process.rt: processes of this machine

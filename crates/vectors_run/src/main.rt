@@ -1,5 +1,7 @@
 // Plays the vectors on standard input: each is a byte for the call, the length of the record, the record.
 // Prints what is not as told, then for each call how many records were as told, by their answer.
+#![tactic(auto)]
+
 ghost use Rattle.std.specs.Prelude.{◌<◌};
 
 use vectors::cursor;

@@ -1,4 +1,3 @@
-use Prim.Native.Nat.{◌-◌}
 use Rattle.saving.proofs.Commits.{digest_none, digest_more, digest_all}
 use Rattle.saving.proofs.commit.digest.Goals as goal
 

@@ -1,5 +1,4 @@
 use mathlib.Core.Path.{sym}
-use Prim.Native.Nat.{◌-◌}
 use Rattle.saving.proofs.Entering.{enter_none, enter_fits, enter_more, enter_size, enter_stop, enter_end}
 use Rattle.saving.proofs.prepare.put_entries.Goals as goal
 
