@@ -17,6 +17,11 @@ slice_bounds-finish-count c =
     let l = first_fits c.args.sent.now in
     omega (arith, c.first_message-first.ensures, l)
 
+pub slice_bounds-finish-start : goal.slice_bounds-finish-start
+slice_bounds-finish-start c =
+    let l = first_fits c.args.sent.now in
+    omega (arith, c.first_message-first.ensures, l)
+
 pub returns-then-finish : goal.returns-then-finish
 returns-then-finish c =
     let mesh = c.args.mesh.now in

@@ -12,10 +12,14 @@ pub overflow_add-end : goal.overflow_add-end
 overflow_add-end c =
     omega (arith, c.own_words.ensures, own_fits c.args.viewers c.args.b)
 
+pub slice_bounds-receive-end : goal.slice_bounds-receive-end
+slice_bounds-receive-end c =
+    omega (arith, c.own_words.ensures, own_fits c.args.viewers c.args.b)
+
 pub returns : goal.returns
 returns c =
     let b = c.args.b in
     let message = c.args.message.now in
     let m = c.args.mesh.now in
     stepped c.args.viewers m c.receive.new.block b _ _ (receiving message) (λ l x. receive l x message) _ refl c.own_words.ensures c.requires
-    refl (receive_does message) c.receive.ensures
+    c.receive.auto.block (receive_does message) c.receive.ensures

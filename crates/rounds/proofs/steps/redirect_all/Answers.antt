@@ -18,6 +18,14 @@ overflow_add-end c =
     let d = length-drop c.loop-at.at u in
     omega (arith, e, l, d, c.loop-at-test.true)
 
+pub slice_bounds-redirect_message-end : goal.slice_bounds-redirect_message-end
+slice_bounds-redirect_message-end c =
+    let u = c.args.updates.now in
+    let e = first_there u c.loop-at.at c.first_message.ensures in
+    let l = first_fits (drop c.loop-at.at u) in
+    let d = length-drop c.loop-at.at u in
+    omega (arith, e, l, d, c.loop-at-test.true)
+
 pub loop-at-smaller : goal.loop-at-smaller
 loop-at-smaller c =
     let u = c.args.updates.now in

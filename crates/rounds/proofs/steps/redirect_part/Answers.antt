@@ -12,10 +12,14 @@ pub overflow_add-end : goal.overflow_add-end
 overflow_add-end c =
     omega (arith, c.own_words.ensures, own_fits c.args.viewers c.args.b)
 
+pub slice_bounds-redirect-end : goal.slice_bounds-redirect-end
+slice_bounds-redirect-end c =
+    omega (arith, c.own_words.ensures, own_fits c.args.viewers c.args.b)
+
 pub returns : goal.returns
 returns c =
     let b = c.args.b in
     let message = c.args.message.now in
     let m = c.args.mesh.now in
     stepped c.args.viewers m c.redirect.new.block b _ _ (redirecting message) (λ l x. redirect l x message) _ refl c.own_words.ensures c.requires
-    refl (redirect_does message) c.redirect.ensures
+    c.redirect.auto.block (redirect_does message) c.redirect.ensures

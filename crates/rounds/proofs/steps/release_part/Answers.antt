@@ -12,6 +12,10 @@ pub overflow_add-end : goal.overflow_add-end
 overflow_add-end c =
     omega (arith, c.own_words.ensures, own_fits c.args.viewers c.args.b)
 
+pub slice_bounds-release-end : goal.slice_bounds-release-end
+slice_bounds-release-end c =
+    omega (arith, c.own_words.ensures, own_fits c.args.viewers c.args.b)
+
 pub returns : goal.returns
 returns c =
     let b = c.args.b in
@@ -19,4 +23,4 @@ returns c =
     let serial = c.args.serial in
     let m = c.args.mesh.now in
     stepped c.args.viewers m c.release.new.block b _ _ (releasing to serial) (λ l x. release l x to serial) _ refl c.own_words.ensures c.requires
-    refl (release_does to serial) c.release.ensures
+    c.release.auto.block (release_does to serial) c.release.ensures
