@@ -41,7 +41,7 @@ loop-i-smaller c =
 
 pub loop-i-preserved : goal.loop-i-preserved
 loop-i-preserved c =
-    let surplus = c.args.t2 in
+    let surplus = c.args.surplus in
     let e : to_z w32 (of_z w32 (get_or surplus c.loop-i.i (pos 0))) ≡ get_or surplus c.loop-i.i (pos 0) = to_z-of_z w32
     (get_or surplus c.loop-i.i (pos 0)) (search rules) in
     putting_next c.loop-i.invariant c.loop-i-test.true (c.signed_word.ensures ∙ ap signed_word e)
