@@ -3,7 +3,7 @@
 # on a file, or meets a full disk there, leaves the old basin or the new one, and shows it before and after it is mended.
 set -euo pipefail
 cd "$(dirname "$0")/.."
-dispatch=$PWD/target/bin/dispatch
+dispatch=$PWD/crates/dispatch/out/dispatch
 bin=$PWD/bin/dispatch
 basin=$PWD/examples/basin
 stored=$PWD/tests/dispatch

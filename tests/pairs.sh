@@ -4,7 +4,7 @@
 # a reader always sees one of these states.
 set -euo pipefail
 cd "$(dirname "$0")/.."
-dispatch=$PWD/target/bin/dispatch
+dispatch=$PWD/crates/dispatch/out/dispatch
 basin=$PWD/examples/basin
 stored=$PWD/tests/dispatch
 pairs=${1:-1000}

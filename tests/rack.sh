@@ -6,7 +6,7 @@ cd "$(dirname "$0")/.."
 root=$PWD
 kills=${1:-5}
 command -v mpicc >/dev/null && command -v mpirun >/dev/null || { echo 'rack: left out, there is no MPI here (libopenmpi-dev and openmpi-bin, or mpich)'; exit 0; }
-dispatch=$PWD/target/bin/dispatch
+dispatch=$PWD/crates/dispatch/out/dispatch
 basin=$PWD/examples/basin
 stored=$PWD/tests/dispatch
 work=$(mktemp -d)
