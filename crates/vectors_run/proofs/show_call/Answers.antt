@@ -1,4 +1,3 @@
-use Prim.Native.Nat.{◌-◌}
 use Rattle.vectors_run.proofs.show_call.Goals as goal
 
 pub loop-answer-init : goal.loop-answer-init
