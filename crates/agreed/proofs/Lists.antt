@@ -32,7 +32,7 @@ use Rattle.rounds.specs.Played.{own_memories, round_in_order, outbox_after}
 use Rattle.rounds.specs.Requests.{requests_in, outcome_number, PlayedRun, played_run, over_words}
 use Rattle.rounds.proofs.Requests.{outbox_length, run_length}
 use Rattle.agreed.specs.Course.{named, outside_checks, any_undivided, Course, course}
-use Rattle.agreed.specs.Promise.{course_of, ListsAgree, RunKept, Promise}
+use Rattle.agreed.specs.Promise.{course_of, ListsAgree, Promise}
 use Rattle.agreed.proofs.Outside.{refused_outside}
 
 -- what a request keeps: its outcome, and the memories what the state and some labels describe

@@ -2,11 +2,11 @@
 use mathlib.Core.Path.{◌≡◌, refl, sym, ◌∙◌, ap, subst}
 use mathlib.Core.Bool.{true, false}
 use mathlib.Core.List.Permᴰ
-use mathlib.Core.List.{List, [], ◌∷◌, ◌++◌, map, append-nil}
+use mathlib.Core.List.{List, [], ◌∷◌, ◌++◌, map}
 use Prim.Native.Nat.{ℕ, zero, suc, ◌+◌, ◌*◌, ◌≤◌}
 use native.Mathlib.Omega.{arith}
 use lib.Dec.{ltb}
-use lib.ListN.{length, get_or, length-append}
+use lib.ListN.{get_or}
 use borrow.Author.Tests.{leb-true}
 use Rattle.model.specs.Lists.{all, first_no, concat, Check}
 use Rattle.model.specs.Values.{Block, limits_in}
@@ -23,7 +23,7 @@ use Rattle.theory.proofs.CallLaws.{served_gives, refused_gives}
 use Rattle.theory.proofs.MeshLaws.{sound_passes}
 use Rattle.agreement.proofs.Agreement.{limits_fit}
 use Rattle.soundness.proofs.OutboxLength.{outbox_suffices}
-use Rattle.balancing.proofs.Chosen.{mesh_read, Candidate, chosen}
+use Rattle.balancing.proofs.Chosen.{mesh_read, chosen}
 use Rattle.balancing.proofs.Levels.{said_level}
 use Rattle.balancing.proofs.Lowers.{move_gives}
 use Rattle.balancing.proofs.Sums.{Given, squares_fall, gaps_fall, gaps_two}
@@ -35,7 +35,7 @@ use Rattle.agreed.proofs.Lists.{lists_agree}
 use Rattle.rebalance.specs.Turn as step
 use Rattle.rebalance.specs.Turn.{Turn, still, ending_by, next_answer, asked_next, turn, turn_by, round_turn}
 use Rattle.rebalance.specs.Balanced.{Stop, level, blocked, full, unfinished, refused_by, BalancingRun, stopped, moved_first, with_memories, stop_by, after_step, balanced}
-use Rattle.rebalance.specs.Promise.{ends_well, as_request, EndedAs, Levels, Lent, EndsWell}
+use Rattle.rebalance.specs.Promise.{ends_well, as_request, Levels, Lent, EndsWell}
 use Rattle.rebalance.proofs.Rooms.{whole_again, own_lent, with_images}
 
 -- STOPS are told apart

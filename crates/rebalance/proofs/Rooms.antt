@@ -5,10 +5,10 @@ use mathlib.Core.List.{List, [], ◌∷◌, ◌++◌, map, append_assoc, append-
 use Prim.Native.Nat.{ℕ, zero, suc, ◌+◌, ◌*◌, ◌-◌, ◌/◌, ◌%◌, ◌≤◌, ◌<◌}
 use native.Mathlib.Omega.{arith}
 use lib.Dec.{ltb}
-use lib.ListN.{length, get_or, take, drop, replicate, length-append, length-drop, length-map, take-append-drop, replicate-append-replicate}
+use lib.ListN.{length, get_or, take, drop, replicate, length-drop, length-map, take-append-drop, replicate-append-replicate}
 use lib.Seq.{take-take, take_at, drop_at, take-add, length-take-le, get_or-take, get_or-drop, ext_get_or}
 use borrow.Author.Tests.{le-ltb}
-use Rattle.model.specs.Lists.{all, concat, tab}
+use Rattle.model.specs.Lists.{concat, tab}
 use Rattle.model.specs.Values.{Block, no_block, Limits, limits_in}
 use Rattle.model.specs.Sound.{Sound, sound_block, block_at}
 use Rattle.model.specs.Cells.{serials}

@@ -1,4 +1,6 @@
 // Balancing the blocks of a mesh, a move at a time: the next move is asked for and, where there is one, its round is played.
+#![tactic(auto)]
+
 pub mod moves; // moves.rt: moves one after the other
 
 ghost use Rattle.oracle.specs.Oracle.{oracle_of};

@@ -1,5 +1,7 @@
 // Rounds on the memory of a whole mesh: send, receive, then release and the redirects. Bit b of `viewers` says that block b is a viewer's; its
 // memory is then the first 2,056 words of its room in the mesh.
+#![tactic(auto)]
+
 pub mod either; // either.rt: a call on memory of the rack's size or of a viewer's
 pub mod list; // list.rt: requests one after the other
 pub mod post; // post.rt: messages that stand one after the other

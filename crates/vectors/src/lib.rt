@@ -1,4 +1,6 @@
 // Vectors of the second implementation: a call of the rack or of a viewer is played on what a record lends, and compared with what the record tells.
+#![tactic(auto)]
+
 pub mod cursor; // cursor.rt: numbers and words of a record
 pub mod lent; // lent.rt: lent memory and bytes, filled and compared
 pub mod meshes; // meshes.rt: meshes stored as files, and digests of their blocks

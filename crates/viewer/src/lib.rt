@@ -1,5 +1,7 @@
 // The calls of the office's viewer: those of the rack, on memory of 2,056 words. A block has at most 256 darts, a volume that is sent or
 // taken at most 64; the arrays are as long.
+#![tactic(auto)]
+
 ghost use Rattle.model.specs.Values.{viewer};
 ghost use Rattle.model.specs.Calls as calls;
 ghost use Rattle.answers.specs.Answers.{answer-of, written_of, Gives};

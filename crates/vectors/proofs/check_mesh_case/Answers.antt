@@ -1,9 +1,5 @@
 use mathlib.Core.Path.{sym}
 use lib.Seq.{length-take-le}
-use Rattle.vectors.proofs.check_mesh_case.Reads as reads
-use Rattle.vectors.proofs.check_mesh_case.Lts as lts
-use Rattle.vectors.proofs.check_on.Reads as check-on-reads
-use Rattle.vectors.proofs.cursor.short.Reads as short-reads
 use Rattle.vectors.proofs.check_mesh_case.Goals as goal
 
 pub slice_bounds-check_on-end-then-words-mesh : goal.slice_bounds-check_on-end-then-words-mesh

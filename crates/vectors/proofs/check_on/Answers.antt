@@ -1,10 +1,5 @@
 use mathlib.Core.Path.{sym}
 use lib.Seq.{length-take-le}
-use Rattle.vectors.proofs.check_on.Reads as reads
-use Rattle.vectors.proofs.check_on.Lts as lts
-use Rattle.vectors.proofs.check_with.Reads as check-with-reads
-use Rattle.vectors.proofs.cursor.short.Reads as short-reads
-use Rattle.vectors.proofs.lent.words.Reads as words-reads
 use Rattle.vectors.proofs.check_on.Goals as goal
 
 pub slice_bounds-check_with-end-then-entries-told : goal.slice_bounds-check_with-end-then-entries-told

@@ -1,5 +1,4 @@
 use mathlib.Core.Path.{refl}
-use Prim.Native.Nat.{◌-◌}
 use Rattle.rebalance.proofs.Moving.{none_moved, one_moved, last_step, last_asked}
 use Rattle.rebalance.proofs.moves.balance.Goals as goal
 

@@ -1,4 +1,3 @@
-use Prim.Native.Nat.{◌-◌}
 use Rattle.rounds.proofs.Requests.{none_played, one_more, no_room, no_request_left}
 use Rattle.rounds.proofs.list.play_all.Goals as goal
 

@@ -1,7 +1,7 @@
 use mathlib.Core.Path.{ap}
 use Rattle.rounds.proofs.Cuts.{first_there, first_fits, first_some, first_part}
 use Rattle.rounds.proofs.Running.{none_told, one_more, all_told, same_message}
-use Prim.Native.Nat.{◌+◌, ◌-◌}
+use Prim.Native.Nat.{◌+◌}
 use lib.ListN.{drop, length-drop}
 use native.Mathlib.Omega.{arith}
 use Rattle.rounds.proofs.steps.redirect_all.Goals as goal

@@ -1,4 +1,3 @@
-use Prim.Native.Nat.{◌-◌}
 use Rattle.vectors.proofs.lent.front_is.Goals as goal
 
 pub loop-i-init : goal.loop-i-init

@@ -1,4 +1,3 @@
-use Prim.Native.Nat.{◌-◌}
 use Rattle.vectors.proofs.packed.text_end.Goals as goal
 
 pub loop-p-init : goal.loop-p-init
