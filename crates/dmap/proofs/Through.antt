@@ -7,7 +7,7 @@
 --   putting-*, put_all           the loop that puts the surpluses
 use mathlib.Core.Path.{◌≡◌, refl, sym, ap, ◌∙◌}
 use mathlib.Core.Bool.{true, false}
-use mathlib.Core.List.{List, [], ◌∷◌, ◌++◌, map}
+use mathlib.Core.List.{List, [], ◌∷◌, map}
 use mathlib.Core.Logic.{⊎_elim}
 use Prim.Native.Nat.{ℕ, ◌+◌, ◌-◌, ◌<◌, ◌≤◌}
 use native.Mathlib.Omega.{arith}
@@ -19,7 +19,7 @@ use borrow.Author.Tests.{ltb-true, ltb-false, eq-eqb, ne_eqb}
 use Rattle.model.specs.Balance as balance
 use Rattle.model.specs.Calls.{Answer, Result, number_of, signed_word}
 use Rattle.laws.proofs.Tests.{by_cases, last_or_below}
-use Rattle.answers.specs.Answers.{question, written_of, move-of, Gives}
+use Rattle.answers.specs.Answers.{question, written_of, Gives}
 use Rattle.balance.specs.Answer.{answer_with, balance_told, GivesBalance}
 use Rattle.balance.specs.declared.nextmove.Balance.{Balance}
 use Rattle.answers.specs.declared.NextMove.{NextMove}
