@@ -2,7 +2,7 @@
 use Rattle.std.proofs.Common.{◌≡◌, ℕ, Bool, true, false, List, sym, ap, ◌∙◌, subst, true≢false, arith}
 use Rattle.model.specs.Values.{rack}
 use Rattle.model.specs.Image.{words, holds_block}
-use Rattle.model.specs.Calls.{served, read_pages}
+use Rattle.model.specs.Calls.{read_pages}
 use Rattle.model.specs.Demands.{Bytes}
 use Rattle.theory.proofs.ImageLaws.{is_image_of}
 use Rattle.theory.proofs.PagesExact.{read_as}
