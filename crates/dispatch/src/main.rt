@@ -502,23 +502,15 @@ fn work(
     }
 }
 
-// Room for sixteen blocks.
-fn empty_mesh() -> [u64; 524416] {
-    [0u64; 524416]
-}
-
-// Room for what is read and printed.
-fn empty_text() -> [u8; 524288] {
-    [0u8; 524288]
-}
-
-// The same, with all memory that any command needs: sixteen blocks and what is made of them, 6.5 MB.
+// The same, with all memory that any command needs: sixteen blocks and what is made of them, 6.5 MB. It is not to become a part of its caller,
+// which asks first whether there is such a stack.
+#[inline(never)]
 fn with_memory(rt: HostRuntime, c: Command, o: Options) -> Status {
-    let mut mesh = empty_mesh();
+    let mut mesh = [0u64; 524416];
     let mut scratch = [0u64; Header::SCRATCH];
     let mut outbox = [0u8; Header::OUTBOX];
     let mut room = [0u8; 262144];
-    let mut text = empty_text();
+    let mut text = [0u8; 524288];
     let mut requests = [0u64; 98304];
     let mut outcomes = [0u64; 16384];
     work(

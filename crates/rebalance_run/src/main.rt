@@ -196,14 +196,9 @@ fn run(input: &[u8], n: usize, mesh: &mut [u64], scratch: &mut [u64], outbox: &m
     }
 }
 
-// Room for sixteen blocks.
-fn empty_mesh() -> [u64; 524416] {
-    [0u64; 524416]
-}
-
 fn main() {
     let mut input = [0u8; 262144];
-    let mut mesh = empty_mesh();
+    let mut mesh = [0u64; 524416];
     let mut scratch = [0u64; Header::SCRATCH];
     let mut outbox = [0u8; Header::OUTBOX];
     let n = io::read_full(0, &mut input);

@@ -110,14 +110,9 @@ fn run(input: &[u8], n: usize, mesh: &mut [u64], outbox: &mut [u8]) {
     }
 }
 
-// Room for sixteen blocks.
-fn empty_mesh() -> [u64; 524416] {
-    [0u64; 524416]
-}
-
 fn main() {
     let mut input = [0u8; 262144];
-    let mut mesh = empty_mesh();
+    let mut mesh = [0u64; 524416];
     let mut outbox = [0u8; Header::OUTBOX];
     let n = io::read_full(0, &mut input);
     run(&input, n, &mut mesh, &mut outbox);

@@ -302,7 +302,7 @@ fn look_again(rt: HostRuntime, mesh: &mut [u64], room: &mut [u8]) -> Seen {
     while tries < 1000 {
         match see(rt, mesh, room) {
             Seen::Moving => {
-                process::pause();
+                process::pause(rt);
                 tries += 1;
             }
             Seen::Blocks(k) => {

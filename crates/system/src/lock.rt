@@ -225,7 +225,7 @@ fn turn(rt: HostRuntime, clock: Clock, own: &[u8], room: &mut [u8]) -> Looked {
                 say_other(from, end, room);
                 return Looked::Ended(Taken::Busy);
             }
-            process::pause();
+            process::pause(rt);
             Looked::Again(c)
         }
         First::Nobody => {

@@ -7,6 +7,7 @@ use crate::{files, text};
 use commands::words;
 use commands::words::Number;
 use std::thread;
+use std::time::Duration;
 
 // The place behind the last closing bracket of a text, where a process's name ends; 0 where there is none.
 fn past_name(stat: &[u8]) -> usize
@@ -82,12 +83,8 @@ pub fn is_running(rt: HostRuntime, process: &[u8], start: &[u8]) -> bool {
 }
 
 // Lets others run for about a millisecond.
-pub fn pause() {
-    let mut i: usize = 0;
-    while i < 1000 {
-        thread::yield_now();
-        i += 1;
-    }
+pub fn pause(rt: HostRuntime) {
+    thread::sleep(&rt, Duration::from_millis(1));
 }
 
 // The number that a line has as its fourth word.
