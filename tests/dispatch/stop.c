@@ -93,10 +93,21 @@ int unlink(const char *path) {
     return full_now() ? -1 : REAL(unlink)(path);
 }
 
-int clock_gettime(clockid_t clock, struct timespec *t) {
+static time_t next_second(void) {
     static time_t now;
-    if (!getenv("SHORT_WAIT")) return (int)syscall(SYS_clock_gettime, clock, t);
-    t->tv_sec = ++now;
+    return ++now;
+}
+
+time_t time(time_t *t) {
+    time_t is = getenv("SHORT_WAIT") ? next_second() : REAL(time)(NULL);
+    if (t) *t = is;
+    return is;
+}
+
+// The time of day alone: what measures how long something takes goes on.
+int clock_gettime(clockid_t clock, struct timespec *t) {
+    if (clock != CLOCK_REALTIME || !getenv("SHORT_WAIT")) return (int)syscall(SYS_clock_gettime, clock, t);
+    t->tv_sec = next_second();
     t->tv_nsec = 0;
     return 0;
 }

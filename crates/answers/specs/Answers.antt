@@ -47,9 +47,9 @@ question refusal.PagesTooLong = 30
 
 -- THE MODEL'S ANSWER of each case
 -- of a call that adds nothing
-abbrev pub answer-of : Answer → calls.Answer (Unit {0})
-answer-of answer.Served = calls.served tt
-answer-of (answer.Refused r) = calls.refused (question r)
+abbrev pub answer_of : Answer → calls.Answer (Unit {0})
+answer_of answer.Served = calls.served tt
+answer_of (answer.Refused r) = calls.refused (question r)
 
 -- of a call that adds the bytes written
 abbrev pub written_of : Written → calls.Answer ℕ
@@ -57,11 +57,11 @@ written_of (written.Served n) = calls.served n
 written_of (written.Refused r) = calls.refused (question r)
 
 -- of next move: a donor, a recipient and a serial
-abbrev pub move-of : NextMove → calls.Answer balance.NextMove
-move-of move.Level = calls.served balance.level
-move-of move.Blocked = calls.served balance.blocked
-move-of (move.Move d r s) = calls.served (balance.move (record { donor = d; recipient = r; serial = s }))
-move-of (move.Refused r) = calls.refused (question r)
+abbrev pub move_of : NextMove → calls.Answer balance.NextMove
+move_of move.Level = calls.served balance.level
+move_of move.Blocked = calls.served balance.blocked
+move_of (move.Move d r s) = calls.served (balance.move (record { donor = d; recipient = r; serial = s }))
+move_of (move.Refused r) = calls.refused (question r)
 
 -- WHAT A CALL GIVES
 -- a result: the answer, and afterwards what was lent to be written

@@ -3,7 +3,7 @@
 
 ghost use Rattle.std.specs.Prelude.{◌≡◌, get_or};
 ghost use Rattle.model.specs.Calls.{number_of, values_of, written_values, move_values};
-ghost use Rattle.answers.specs.Answers.{question, answer-of, written_of, move-of};
+ghost use Rattle.answers.specs.Answers.{question, answer_of, written_of, move_of};
 
 // One case for each question, 1 to 30, in their order.
 #[derive(Clone, Copy)]
@@ -101,7 +101,7 @@ pub fn refusal_number(r: Refusal) -> u32
 }
 
 pub fn answer_number(a: Answer) -> u32
-    ensures { result ≡ number_of (answer-of a) }
+    ensures { result ≡ number_of (answer_of a) }
 {
     match a {
         Answer::Served => 0,
@@ -129,7 +129,7 @@ pub fn written_bytes(w: Written) -> usize
 }
 
 pub fn move_number(m: NextMove) -> u32
-    ensures { result ≡ number_of (move-of m) }
+    ensures { result ≡ number_of (move_of m) }
 {
     match m {
         NextMove::Level => 0,
@@ -141,7 +141,7 @@ pub fn move_number(m: NextMove) -> u32
 
 // 0 level, 1 blocked, 2 a move; 0 of a refused call.
 pub fn move_kind(m: NextMove) -> u32
-    ensures { result ≡ get_or (values_of move_values (move-of m)) 0 0 }
+    ensures { result ≡ get_or (values_of move_values (move_of m)) 0 0 }
 {
     match m {
         NextMove::Level => 0,
@@ -152,7 +152,7 @@ pub fn move_kind(m: NextMove) -> u32
 }
 
 pub fn move_donor(m: NextMove) -> u32
-    ensures { result ≡ get_or (values_of move_values (move-of m)) 1 0 }
+    ensures { result ≡ get_or (values_of move_values (move_of m)) 1 0 }
 {
     match m {
         NextMove::Level => 0,
@@ -163,7 +163,7 @@ pub fn move_donor(m: NextMove) -> u32
 }
 
 pub fn move_recipient(m: NextMove) -> u32
-    ensures { result ≡ get_or (values_of move_values (move-of m)) 2 0 }
+    ensures { result ≡ get_or (values_of move_values (move_of m)) 2 0 }
 {
     match m {
         NextMove::Level => 0,
@@ -174,7 +174,7 @@ pub fn move_recipient(m: NextMove) -> u32
 }
 
 pub fn move_serial(m: NextMove) -> u64
-    ensures { result ≡ get_or (values_of move_values (move-of m)) 3 0 }
+    ensures { result ≡ get_or (values_of move_values (move_of m)) 3 0 }
 {
     match m {
         NextMove::Level => 0,

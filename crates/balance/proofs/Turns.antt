@@ -21,7 +21,7 @@ use Rattle.model.specs.Balance as balance
 use Rattle.model.specs.Balance.{Oracle, every, box, plane, oracle_right, numbered_oracle}
 use Rattle.model.specs.Calls as calls
 use Rattle.model.specs.Calls.{served, refused, memories, whole_mesh_checks}
-use Rattle.answers.specs.Answers.{question, answer-of, move-of, answered, Gives}
+use Rattle.answers.specs.Answers.{question, answer_of, move_of, answered, Gives}
 use Rattle.answers.specs.declared.Refusal.{Refusal}
 use Rattle.answers.specs.declared.NextMove.{NextMove}
 use Rattle.answers.specs.declared.NextMove.TheVariants as next
@@ -42,14 +42,14 @@ no_other (suc (suc zero)) axis low high a b c = absurd (c refl)
 no_other (suc (suc (suc n))) axis low high a b c = refl
 
 -- BESIDE THE ANSWER
-answer_named : (n : NextMove) (a : ℕ) (ss : List ℤ) {x : balance.NextMove} → move-of n ≡ served x → answer_with n a ss ≡ served (record { next = x; mean = a; surplus = ss })
+answer_named : (n : NextMove) (a : ℕ) (ss : List ℤ) {x : balance.NextMove} → move_of n ≡ served x → answer_with n a ss ≡ served (record { next = x; mean = a; surplus = ss })
 unfolding answer_with
 answer_named next.Level a ss {x} e = let q : balance.level ≡ x = cc in rw (sym q)
 answer_named next.Blocked a ss {x} e = let q : balance.blocked ≡ x = cc in rw (sym q)
 answer_named (next.Move d r s) a ss {x} e = let q : balance.move (record { donor = d; recipient = r; serial = s }) ≡ x = cc in rw (sym q)
 answer_named (next.Refused q) a ss {x} e = let z : ◌≡◌ {A = ℕ} 0 1 = cc in absurd (omega arith)
 
-pub told : (n : NextMove) (a : ℕ) (ss : List ℤ) {x : balance.NextMove} {b : ℕ} {rs : List ℤ} → move-of n ≡ served x → a ≡ b → ss ≡ rs
+pub told : (n : NextMove) (a : ℕ) (ss : List ℤ) {x : balance.NextMove} {b : ℕ} {rs : List ℤ} → move_of n ≡ served x → a ≡ b → ss ≡ rs
     → answer_with n a ss ≡ served (record { next = x; mean = b; surplus = rs })
 told n a ss {x} e f g = answer_named n a ss e ∙ (λ i. served (record { next = x; mean = f i; surplus = g i }))
 
@@ -84,11 +84,11 @@ module _ (viewers : ℕ) (m s : List ℕ) where
   unfolding whole_mesh_checks mesh_checks
   mesh_numbered = refl
 
-  pub mesh_no : {a : Answer} {q : Refusal} → a ≡ answer.Refused q → answer-of a ≡ answered (whole_mesh_checks (limits_in viewers) m s) → refused (question q) ≡ answered (whole_mesh_checks (limits_in viewers) m s)
-  mesh_no e h = sym (ap answer-of e) ∙ h
+  pub mesh_no : {a : Answer} {q : Refusal} → a ≡ answer.Refused q → answer_of a ≡ answered (whole_mesh_checks (limits_in viewers) m s) → refused (question q) ≡ answered (whole_mesh_checks (limits_in viewers) m s)
+  mesh_no e h = sym (ap answer_of e) ∙ h
 
-  pub mesh_yes : {a : Answer} → a ≡ answer.Served → answer-of a ≡ answered (whole_mesh_checks (limits_in viewers) m s) → served tt ≡ answered (whole_mesh_checks (limits_in viewers) m s)
-  mesh_yes e h = sym (ap answer-of e) ∙ h
+  pub mesh_yes : {a : Answer} → a ≡ answer.Served → answer_of a ≡ answered (whole_mesh_checks (limits_in viewers) m s) → served tt ≡ answered (whole_mesh_checks (limits_in viewers) m s)
+  mesh_yes e h = sym (ap answer_of e) ∙ h
 
   module _ (o : Oracle) where
     pub refused_mesh : {n : ℕ} {after : List ℕ} → refused n ≡ answered (whole_mesh_checks (limits_in viewers) m s) → after ≡ s → Gives (calls.next_move (limits_in viewers) m o s) (refused n) after

@@ -12,7 +12,7 @@ ghost use Rattle.model.specs.Sound.{blocks_right};
 ghost use Rattle.model.specs.Image.{count_in, block_in, holds_block};
 ghost use Rattle.model.specs.Calls.{memories, served};
 ghost use Rattle.model.specs.Balance.{blocked, first_or, next_of as model-next, balance_of};
-ghost use Rattle.answers.specs.Answers.{move-of};
+ghost use Rattle.answers.specs.Answers.{move_of};
 ghost use Rattle.oracle.specs.Oracle.{oracle_of};
 ghost use Rattle.selection.specs.Picked.{Sizes};
 ghost use Rattle.mesh.specs.Parts.{block_count, part};
@@ -109,7 +109,7 @@ fn first_move(
 ) -> NextMove
     requires { SoundParts mesh.now × CellsCounted (oracle_of o) mesh.now counts × Least counts (block_count mesh.now) low
         × ((i : ℕ) → i < block_count mesh.now → count_in (part mesh.now i) ≤ length sizes.old) }
-    ensures { move-of result ≡ served (first_or blocked (all_moves viewers (oracle_of o) mesh.now)) }
+    ensures { move_of result ≡ served (first_or blocked (all_moves viewers (oracle_of o) mesh.now)) }
 {
     let k = mesh.len() / Header::WORDS;
     // No volume may leave a block before d.
@@ -132,7 +132,7 @@ fn first_move(
 // The next move, by the counts.
 fn next_by(mesh: &[u64], viewers: u32, o: Oracle, counts: [u32; BLOCKS]) -> NextMove
     requires { SoundParts mesh.now × CellsCounted (oracle_of o) mesh.now counts }
-    ensures { move-of result ≡ served (model-next (limits_in viewers) (oracle_of o) (mesh_in mesh.now)) }
+    ensures { move_of result ≡ served (model-next (limits_in viewers) (oracle_of o) (mesh_in mesh.now)) }
 {
     let k = mesh.len() / Header::WORDS;
     let low = surplus::least(counts, k);

@@ -4,14 +4,14 @@
 ghost use Rattle.std.specs.Prelude.{◌≡◌};
 ghost use Rattle.model.specs.Values.{limits_in};
 ghost use Rattle.model.specs.Calls.{whole_mesh_checks, check_mesh};
-ghost use Rattle.answers.specs.Answers.{answer-of, answered, Gives};
+ghost use Rattle.answers.specs.Answers.{answer_of, answered, Gives};
 
 use answers::{Answer, Refusal};
 use pairing::Pairing;
 
 // Questions 1, 2 and 23 to 27 alone. Bit b of `viewers` says that the block numbered b is a viewer's.
 pub fn mesh_asked(mesh: &[u64], viewers: u32, scratch: &mut [u64]) -> Answer
-    ensures { (answer-of result ≡ answered (whole_mesh_checks (limits_in viewers) mesh.now scratch.old)) × (scratch.new ≡ scratch.old) }
+    ensures { (answer_of result ≡ answered (whole_mesh_checks (limits_in viewers) mesh.now scratch.old)) × (scratch.new ≡ scratch.old) }
 {
     if !mesh::mesh_lent(mesh, scratch) {
         return Answer::Refused(Refusal::MemorySize);
@@ -44,7 +44,7 @@ pub fn mesh_asked(mesh: &[u64], viewers: u32, scratch: &mut [u64]) -> Answer
 
 // Check mesh: is it sound? The scratch is zero before and after.
 pub fn check_mesh(mesh: &[u64], viewers: u32, scratch: &mut [u64]) -> Answer
-    ensures { Gives (check_mesh (limits_in viewers) mesh.now scratch.old) (answer-of result) scratch.new }
+    ensures { Gives (check_mesh (limits_in viewers) mesh.now scratch.old) (answer_of result) scratch.new }
 {
     mesh_asked(mesh, viewers, scratch)
 }

@@ -1,7 +1,7 @@
 // The header of a block's memory: number, counter and dart count, in the first 8 words.
 ghost use Rattle.std.specs.Prelude.{◌≡◌, [], ◌++◌, ◌+◌, ◌≤◌, ◌<◌, length, drop, replicate};
 ghost use Rattle.model.specs.Calls as calls;
-ghost use Rattle.answers.specs.Answers.{answer-of, Gives};
+ghost use Rattle.answers.specs.Answers.{answer_of, Gives};
 ghost use Rattle.model.specs.Image.{words_of, image, new_block};
 ghost use Rattle.model.specs.Values.{room, rack, viewer, limits_in};
 ghost use Rattle.memory.specs.Header.{empty_header, header_in, header_words, limits_of};
@@ -182,7 +182,7 @@ pub fn make_empty(number: u64, block: &mut [u64])
 // Makes an empty block by limits. 1: is the memory of a block's size? 9: is the number at most 15? A refused call leaves the memory.
 pub fn empty_by(limits: Limits, number: u64, block: &mut [u64]) -> Answer
     requires { limits.block ≤ room }
-    ensures { Gives (calls.empty (limits_of limits) number block.old) (answer-of result) block.new }
+    ensures { Gives (calls.empty (limits_of limits) number block.old) (answer_of result) block.new }
 {
     if block.len() != limits.words() {
         return Answer::Refused(Refusal::MemorySize);
@@ -196,7 +196,7 @@ pub fn empty_by(limits: Limits, number: u64, block: &mut [u64]) -> Answer
 
 // Makes an empty block of the rack.
 pub fn empty(number: u64, block: &mut [u64]) -> Answer
-    ensures { Gives (calls.empty rack number block.old) (answer-of result) block.new }
+    ensures { Gives (calls.empty rack number block.old) (answer_of result) block.new }
 {
     empty_by(Limits::rack(), number, block)
 }

@@ -5,7 +5,7 @@
 ghost use Rattle.std.specs.Prelude.{◌≡◌, ℕ, ◌≤◌, length, replicate, slice_index};
 ghost use Rattle.model.specs.Sound.{block_checks};
 ghost use Rattle.model.specs.Image.{words_for, block_in};
-ghost use Rattle.answers.specs.Answers.{answer-of, answered, Gives};
+ghost use Rattle.answers.specs.Answers.{answer_of, answered, Gives};
 ghost use Rattle.columns.specs.Columns.{count, Ranged};
 ghost use Rattle.keyset.specs.Slots.{slot_count};
 ghost use Rattle.newblock.specs.Serials.{InSerials};
@@ -26,7 +26,7 @@ pub fn link_answer(
     requires block_in_bounds { (words_for (count block.now) ≤ length block.now) × Ranged block.now }
     requires block_in_bounds_2 { (count block.now ≤ length seen.old) × ((p : ℕ) → slice_index seen.old p ≡ 0) }
     requires block_in_bounds_3 { (count block.now ≤ length keys.old) × (count block.now ≤ length scratch.old) × (table.old ≡ replicate slot_count 0) }
-    ensures { answer-of result ≡ answered (link_checks (block_in block.now)) }
+    ensures { answer_of result ≡ answered (link_checks (block_in block.now)) }
 {
     if !sound::questions::links_right(block, seen) {
         return Answer::Refused(Refusal::LinksWrong);
@@ -51,7 +51,7 @@ pub fn block_answer(
     requires block_in_bounds { (words_for (count block.now) ≤ length block.now) × Ranged block.now }
     requires block_in_bounds_2 { (count block.now ≤ length seen.old) × ((p : ℕ) → slice_index seen.old p ≡ 0) }
     requires block_in_bounds_3 { (count block.now ≤ length keys.old) × (count block.now ≤ length scratch.old) × (table.old ≡ replicate slot_count 0) }
-    ensures { answer-of result ≡ answered (block_checks (block_in block.now)) }
+    ensures { answer_of result ≡ answered (block_checks (block_in block.now)) }
 {
     if !sound::questions::coordinates_finite(block) {
         return Answer::Refused(Refusal::CoordinateNotFinite);
@@ -80,7 +80,7 @@ pub fn put_block(
     requires block_len { (length block.old ≡ length made.old) × InSerials made.old }
     requires made_in_bounds { (count made.old ≤ length seen.old) × ((p : ℕ) → slice_index seen.old p ≡ 0) }
     requires made_in_bounds_2 { (count made.old ≤ length keys.old) × (count made.old ≤ length scratch.old) × (table.old ≡ replicate slot_count 0) }
-    ensures { Gives (storing_block made.old block.old) (answer-of result) block.new }
+    ensures { Gives (storing_block made.old block.old) (answer_of result) block.new }
 {
     place::resolve(made, keys, scratch);
     match block_answer(made, seen, keys, table, scratch) {
@@ -104,7 +104,7 @@ pub fn put_links(
     requires block_len { (length block.old ≡ length made.old) × InSerials made.old }
     requires made_in_bounds { (count made.old ≤ length seen.old) × ((p : ℕ) → slice_index seen.old p ≡ 0) }
     requires made_in_bounds_2 { (count made.old ≤ length keys.old) × (count made.old ≤ length scratch.old) × (table.old ≡ replicate slot_count 0) }
-    ensures { Gives (storing_links made.old block.old) (answer-of result) block.new }
+    ensures { Gives (storing_links made.old block.old) (answer_of result) block.new }
 {
     place::resolve(made, keys, scratch);
     match link_answer(made, seen, keys, table, scratch) {

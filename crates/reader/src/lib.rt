@@ -1,5 +1,5 @@
 // A thin reader over a message: it holds the slice and what was read of it last, and leaves the work to functions on a slice and a place.
-// Each function over it is proved by hand, so they are few and have no branch; callers use those whose parameters are plain.
+// Callers use the functions whose parameters are plain.
 #![tactic(auto)]
 
 ghost use Rattle.std.specs.Prelude.{◌≡◌};

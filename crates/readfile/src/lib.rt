@@ -5,7 +5,7 @@ ghost use Rattle.std.specs.Prelude.{◌≡◌, ℕ, ◌≤◌, length, get_or, r
 ghost use Rattle.model.specs.Values.{room, rack};
 ghost use Rattle.model.specs.Image.{words_of};
 ghost use Rattle.model.specs.Calls.{read_file};
-ghost use Rattle.answers.specs.Answers.{answer-of, Gives};
+ghost use Rattle.answers.specs.Answers.{answer_of, Gives};
 ghost use Rattle.memory.specs.Header.{limits_of};
 ghost use Rattle.keyset.specs.Slots.{slot_count};
 
@@ -29,7 +29,7 @@ pub fn read_file_by(
     requires block_le_room { (limits.block ≤ room) × (made.old ≡ replicate (words_of (limits_of limits)) 0) }
     requires block_in_bounds { (limits.block ≤ length seen.old) × ((p : ℕ) → get_or seen.old p 0 ≡ 0) }
     requires block_in_bounds_2 { (limits.block ≤ length keys.old) × (limits.block ≤ length scratch.old) × (table.old ≡ replicate slot_count 0) }
-    ensures { Gives (read_file (limits_of limits) file.now block.old) (answer-of result) block.new }
+    ensures { Gives (read_file (limits_of limits) file.now block.old) (answer_of result) block.new }
 {
     if block.len() != limits.words() {
         return Answer::Refused(Refusal::MemorySize);
@@ -42,7 +42,7 @@ pub fn read_file_by(
 
 // Reads a file into a block of the rack.
 pub fn read_file(file: &[u8], block: &mut [u64]) -> Answer
-    ensures { Gives (read_file rack file.now block.old) (answer-of result) block.new }
+    ensures { Gives (read_file rack file.now block.old) (answer_of result) block.new }
 {
     let mut made = [0u64; Header::WORDS];
     let mut seen = [0u8; Header::DARTS];

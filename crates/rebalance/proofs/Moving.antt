@@ -11,7 +11,7 @@ use Rattle.model.specs.Balance as balance
 use Rattle.model.specs.Balance.{Oracle, Move, NextMove}
 use Rattle.model.specs.Calls.{Answer, served, refused, asked, next_move}
 use Rattle.laws.proofs.Tests.{by_cases}
-use Rattle.answers.specs.Answers.{move-of}
+use Rattle.answers.specs.Answers.{move_of}
 use Rattle.balance.specs.Answer.{GivesBalance}
 use Rattle.balance.specs.declared.nextmove.Balance.{Balance}
 use Rattle.answers.specs.declared.NextMove as answers-move
@@ -209,7 +209,7 @@ module _ {viewers : ℕ} {m₀ : List ℕ} {o : Oracle} {scratch₀ outbox₀ mo
 
 -- the next move asked for
 pub asked_as : (viewers : ℕ) (m : List ℕ) (o : Oracle) (scratch : List ℕ) (n : ℕ) {a : Balance} {x : answers-move.NextMove} {scratch' : List ℕ} (b : Balanced) → a.next ≡ x
-    → GivesBalance (next_move (limits_in viewers) m o scratch) a scratch' → stop_of b ≡ stop_by (move-of x) → count_of b ≡ n → TurnAsked viewers m o scratch n b scratch'
+    → GivesBalance (next_move (limits_in viewers) m o scratch) a scratch' → stop_of b ≡ stop_by (move_of x) → count_of b ≡ n → TurnAsked viewers m o scratch n b scratch'
 asked_as viewers m o scratch n b known g e c = record {
   stop_is = e ∙ ap stop_by (asked_is viewers m o scratch known g);
   count_is = c;

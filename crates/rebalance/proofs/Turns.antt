@@ -6,7 +6,7 @@ use lib.IntN.{ℤ}
 use Rattle.model.specs.Values.{limits_in}
 use Rattle.model.specs.Balance.{Oracle}
 use Rattle.model.specs.Calls as calls
-use Rattle.answers.specs.Answers.{move-of}
+use Rattle.answers.specs.Answers.{move_of}
 use Rattle.answers.specs.declared.NextMove.{NextMove}
 use Rattle.answers.specs.declared.NextMove.TheVariants as next
 use Rattle.balance.specs.Answer.{answer_with, GivesBalance}
@@ -35,7 +35,7 @@ carried viewers m outbox d r s st known e p =
     }
 
 -- the move of an answer with what stands beside it
-pub next_alone : (n : NextMove) (m : ℕ) (ss : List ℤ) → next_answer (answer_with n m ss) ≡ move-of n
+pub next_alone : (n : NextMove) (m : ℕ) (ss : List ℤ) → next_answer (answer_with n m ss) ≡ move_of n
 unfolding answer_with
 next_alone next.Level m ss = refl
 next_alone next.Blocked m ss = refl
@@ -43,12 +43,12 @@ next_alone (next.Move d r s) m ss = refl
 next_alone (next.Refused q) m ss = refl
 
 pub asked_is : (viewers : ℕ) (m : List ℕ) (o : Oracle) (scratch : List ℕ) {b : Balance} {x : NextMove} {scratch' : List ℕ} → b.next ≡ x
-    → GivesBalance (calls.next_move (limits_in viewers) m o scratch) b scratch' → move-of x ≡ asked_next viewers m o scratch
-asked_is viewers m o scratch {b} known g = ap move-of (sym known) ∙ sym (next_alone b.next b.mean b.surplus) ∙ ap next_answer g.answer
+    → GivesBalance (calls.next_move (limits_in viewers) m o scratch) b scratch' → move_of x ≡ asked_next viewers m o scratch
+asked_is viewers m o scratch {b} known g = ap move_of (sym known) ∙ sym (next_alone b.next b.mean b.surplus) ∙ ap next_answer g.answer
 
 -- what the next move answered, and the turn that this makes
 pub answered : (viewers : ℕ) (m : List ℕ) (o : Oracle) (scratch outbox : List ℕ) {b : Balance} {x : NextMove} {s : Ending} {m' scratch' outbox' : List ℕ} → b.next ≡ x
-    → GivesBalance (calls.next_move (limits_in viewers) m o scratch) b scratch' → TurnEnded viewers (turn_by viewers m outbox (move-of x)) m s m' outbox'
+    → GivesBalance (calls.next_move (limits_in viewers) m o scratch) b scratch' → TurnEnded viewers (turn_by viewers m outbox (move_of x)) m s m' outbox'
     → Levelled viewers m o scratch outbox s m' scratch' outbox'
 unfolding turn
 answered viewers m o scratch outbox {s = s} {m' = m'} {outbox' = outbox'} known g e =

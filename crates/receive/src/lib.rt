@@ -8,7 +8,7 @@ ghost use Rattle.model.specs.Values.{room, rack};
 ghost use Rattle.model.specs.Image.{words_of, holds_block};
 ghost use Rattle.model.specs.Messages.{Transfer, a_transfer, message_in};
 ghost use Rattle.model.specs.Calls as calls;
-ghost use Rattle.answers.specs.Answers.{answer-of, Gives};
+ghost use Rattle.answers.specs.Answers.{answer_of, Gives};
 ghost use Rattle.memory.specs.Header.{limits_of};
 ghost use Rattle.keyset.specs.Slots.{slot_count};
 ghost use Rattle.cells.specs.Places.{Clear};
@@ -54,7 +54,7 @@ fn take(
 ) -> Answer
     requires block_le_room { (limits.block ≤ room) × (length block.old ≡ words_of (limits_of limits)) × (holds_block block.old ≡ true) × Sides vertex.old serial.old starts.now sizes.now × ((t : Transfer) × (message_in message.now ≡ a_transfer t) × TransferOutlined t message.now vertex.old serial.old starts.now sizes.now front tail) }
     requires lent_arrays { LentArrays limits.volume limits.block keys.old ranks.old opposite.old draft.old kinds.old links.old old.old new.old codes.old indices.old numbers.old third.old places.old marks.old seen.old }
-    ensures { Takes (limits_of limits) block.old message.now vertex.old serial.old starts.now sizes.now front tail (answer-of result) block.new }
+    ensures { Takes (limits_of limits) block.old message.now vertex.old serial.old starts.now sizes.now front tail (answer_of result) block.new }
 {
     // The questions work in `old` and `new`; then they are for the places of all darts.
     match asks::questions(
@@ -103,7 +103,7 @@ pub fn receive_by(
     requires block_le_room { (limits.block ≤ room) × Sides vertex.old serial.old starts.old sizes.old }
     requires lent_arrays { LentArrays limits.volume limits.block keys.old ranks.old opposite.old draft.old kinds.old links.old old.old new.old codes.old indices.old numbers.old third.old places.old marks.old seen.old }
     requires block_in_bounds { (limits.block ≤ length met.old) × Clear met.old × (slots.old ≡ replicate slot_count 0) }
-    ensures { Gives (calls.receive (limits_of limits) block.old message.now) (answer-of result) block.new }
+    ensures { Gives (calls.receive (limits_of limits) block.old message.now) (answer_of result) block.new }
 {
     if block.len() != limits.words() {
         return Answer::Refused(Refusal::MemorySize);
@@ -123,7 +123,7 @@ pub fn receive_by(
 
 // Takes the volume that a transfer brings into a block of the rack.
 pub fn receive(block: &mut [u64], message: &[u8]) -> Answer
-    ensures { Gives (calls.receive rack block.old message.now) (answer-of result) block.new }
+    ensures { Gives (calls.receive rack block.old message.now) (answer_of result) block.new }
 {
     let mut vertex = [0u64; Header::MESSAGE];
     let mut serial = [0u64; Header::MESSAGE];

@@ -10,7 +10,7 @@ ghost use Rattle.model.specs.Values.{rack, room, message_darts, last_block};
 ghost use Rattle.model.specs.Image.{count_in, block_in, holds_block};
 ghost use Rattle.model.specs.Arrival.{addressed};
 ghost use Rattle.model.specs.Calls as calls;
-ghost use Rattle.answers.specs.Answers.{answer-of, Gives};
+ghost use Rattle.answers.specs.Answers.{answer_of, Gives};
 ghost use Rattle.memory.specs.Header.{limits_of};
 ghost use Rattle.keyset.specs.Slots.{slot_count};
 ghost use Rattle.cells.specs.Places.{Clear};
@@ -110,7 +110,7 @@ fn redirect_update(
     requires block_value { (holds_block block.old ≡ true) × Follows s.now u }
     requires block_in_bounds { (count_in block.old ≤ length table.old) × Unset (count_in block.old) table.old × (count_in block.old < length hits.old) × Clear hits.old }
     requires block_in_bounds_2 { (count_in block.old ≤ length codes.old) × (count_in block.old ≤ length scratch.old) }
-    ensures { Redirects block.old s.now u (answer-of result) block.new }
+    ensures { Redirects block.old s.now u (answer_of result) block.new }
 {
     let from = u.from;
     if !for_here(block, from, u.to) {
@@ -159,7 +159,7 @@ pub fn redirect_by(
     requires vertex_len { (length vertex.old ≡ message_darts) × (length serial.old ≡ message_darts) × (length starts.old ≡ message_darts) × (length sizes.old ≡ message_darts) }
     requires block_in_bounds { (limits.block ≤ length table.old) × Unset limits.block table.old × (limits.block < length hits.old) × Clear hits.old }
     requires block_in_bounds_2 { (limits.block ≤ length codes.old) × (limits.block ≤ length scratch.old) × (limits.block ≤ length seen.old) × Clear seen.old × (slots.old ≡ replicate slot_count 0) }
-    ensures { Gives (calls.redirect (limits_of limits) block.old message.now) (answer-of result) block.new }
+    ensures { Gives (calls.redirect (limits_of limits) block.old message.now) (answer_of result) block.new }
 {
     if block.len() != limits.words() {
         return Answer::Refused(Refusal::MemorySize);
@@ -176,7 +176,7 @@ pub fn redirect_by(
 
 // Redirects the faces that an update names, in a block of the rack.
 pub fn redirect(block: &mut [u64], message: &[u8]) -> Answer
-    ensures { Gives (calls.redirect rack block.old message.now) (answer-of result) block.new }
+    ensures { Gives (calls.redirect rack block.old message.now) (answer_of result) block.new }
 {
     let mut vertex = [0u64; Header::MESSAGE];
     let mut serial = [0u64; Header::MESSAGE];

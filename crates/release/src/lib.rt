@@ -5,7 +5,7 @@ ghost use Rattle.std.specs.Prelude.{◌≡◌, true, ◌≤◌, length, replicat
 ghost use Rattle.model.specs.Values.{room, rack, message_darts};
 ghost use Rattle.model.specs.Image.{words_of, count_in, is_image, holds_block};
 ghost use Rattle.model.specs.Calls as calls;
-ghost use Rattle.answers.specs.Answers.{answer-of, Gives};
+ghost use Rattle.answers.specs.Answers.{answer_of, Gives};
 ghost use Rattle.memory.specs.Header.{limits_of};
 ghost use Rattle.keyset.specs.Slots.{slot_count};
 ghost use Rattle.cells.specs.Places.{Clear};
@@ -59,7 +59,7 @@ fn release_asked(
     requires block_in_bounds { (count_in block.old ≤ length marks.old) × Clear marks.old × (count_in block.old ≤ length seen.old) × Clear seen.old }
     requires block_in_bounds_2 { (count_in block.old ≤ length order.old) × (count_in block.old ≤ length starts.old) × (count_in block.old ≤ length numbers.old) }
     requires block_in_bounds_3 { (count_in block.old ≤ length firsts.old) × (limits.volume ≤ length colours.old) }
-    ensures { Gives (calls.release (limits_of limits) block.old to serial) (answer-of result) block.new }
+    ensures { Gives (calls.release (limits_of limits) block.old to serial) (answer_of result) block.new }
 {
     match departure::leaves(
         block, limits, to, serial, marks, order, starts, seen, numbers, firsts, colours,
@@ -96,7 +96,7 @@ pub fn release_by(
     requires block_in_bounds { (limits.block ≤ length met.old) × (limits.block ≤ length keys.old) × (limits.block ≤ length scratch.old) × Clear met.old × (slots.old ≡ replicate slot_count 0) }
     requires block_in_bounds_2 { (limits.block ≤ length marks.old) × Clear marks.old × (limits.block ≤ length seen.old) × Clear seen.old }
     requires block_in_bounds_3 { (limits.block ≤ length order.old) × (limits.block ≤ length starts.old) × (limits.block ≤ length numbers.old) × (limits.block ≤ length firsts.old) }
-    ensures { Gives (calls.release (limits_of limits) block.old to serial) (answer-of result) block.new }
+    ensures { Gives (calls.release (limits_of limits) block.old to serial) (answer_of result) block.new }
 {
     if block.len() != limits.words() {
         return Answer::Refused(Refusal::MemorySize);
@@ -111,7 +111,7 @@ pub fn release_by(
 
 // Lets a volume of a block of the rack go.
 pub fn release(block: &mut [u64], to: u64, serial: u64) -> Answer
-    ensures { Gives (calls.release rack block.old to serial) (answer-of result) block.new }
+    ensures { Gives (calls.release rack block.old to serial) (answer_of result) block.new }
 {
     let mut met = [0u8; Header::DARTS];
     let mut keys = [0u64; Header::DARTS];

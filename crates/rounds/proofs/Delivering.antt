@@ -16,7 +16,7 @@ use Rattle.model.specs.Runs as runs
 use Rattle.model.specs.DividedRun.{Round, Step, Done, done, called, stored, run_steps, receiving, releasing, redirect_step, messages_in, send_step, sent_messages, round, written, memory_at}
 use Rattle.laws.proofs.Lists.{rest_whole}
 use Rattle.theory.proofs.CallLaws.{with_fifteen, writing_serves, writing_refuses}
-use Rattle.answers.specs.Answers.{Gives, question, answer-of, written_of}
+use Rattle.answers.specs.Answers.{Gives, question, answer_of, written_of}
 use Rattle.answers.specs.declared.Answer as answers
 use Rattle.answers.specs.declared.Answer.TheVariants as answer
 use Rattle.answers.specs.declared.Written as answers-written
@@ -128,22 +128,22 @@ no_finished : {ok : Bool} → ok ≡ false → runs.unfinished ≡ cond ok runs.
 no_finished e = rw e refl
 
 module _ (viewers : ℕ) (m : List ℕ) (from to serial : ℕ) (sent : List ℕ) (n : ℕ) (l : n ≡ length (first_in sent)) (a : answers.Answer)
-    {m₁ : List ℕ} (w : Stepped viewers m (at_block to (receiving (take n sent))) (number_of (answer-of a)) m₁) where
-  first_got : {k : ℕ} → number_of (answer-of a) ≡ k → Stepped viewers m (at_block to (receiving (first_in sent))) k m₁
+    {m₁ : List ℕ} (w : Stepped viewers m (at_block to (receiving (take n sent))) (number_of (answer_of a)) m₁) where
+  first_got : {k : ℕ} → number_of (answer_of a) ≡ k → Stepped viewers m (at_block to (receiving (first_in sent))) k m₁
   first_got {k} e = subst (λ (x : List ℕ). Stepped viewers m (at_block to (receiving x)) k m₁) (first_front sent n l) (subst (λ (k : ℕ). Stepped viewers m (at_block to (receiving (take n sent))) k m₁) e w)
 
   pub deliver_refused : (q : Refusal) → a ≡ answer.Refused q → Delivered viewers m from to serial sent (outcome.Refused q) m₁
-  deliver_refused q e = refused_there viewers m from to serial sent q (first_got (ap (λ (x : answers.Answer). number_of (answer-of x)) e))
+  deliver_refused q e = refused_there viewers m from to serial sent q (first_got (ap (λ (x : answers.Answer). number_of (answer_of x)) e))
 
   module _ (e : a ≡ answer.Served) {ok : Bool} {m₂ : List ℕ} (r : Ran viewers m₁ (at_block from (releasing to serial) ∷ map redirect_step (messages_in (take (length sent - n) (drop n sent)))) ok m₂) where
     last_ran : Ran viewers m₁ (at_block from (releasing to serial) ∷ map redirect_step (messages_in (drop n sent))) ok m₂
     last_ran = subst (λ (x : List ℕ). Ran viewers m₁ (at_block from (releasing to serial) ∷ map redirect_step (messages_in x)) ok m₂) (rest_whole sent n) r
 
     pub deliver_finished : ok ≡ true → Delivered viewers m from to serial sent outcome.Finished m₂
-    deliver_finished y = taken_there viewers m from to serial sent n outcome.Finished l (yes_finished y) (first_got (ap (λ (x : answers.Answer). number_of (answer-of x)) e)) last_ran
+    deliver_finished y = taken_there viewers m from to serial sent n outcome.Finished l (yes_finished y) (first_got (ap (λ (x : answers.Answer). number_of (answer_of x)) e)) last_ran
 
     pub deliver_unfinished : ok ≡ false → Delivered viewers m from to serial sent outcome.Unfinished m₂
-    deliver_unfinished y = taken_there viewers m from to serial sent n outcome.Unfinished l (no_finished y) (first_got (ap (λ (x : answers.Answer). number_of (answer-of x)) e)) last_ran
+    deliver_unfinished y = taken_there viewers m from to serial sent n outcome.Unfinished l (no_finished y) (first_got (ap (λ (x : answers.Answer). number_of (answer_of x)) e)) last_ran
 
 -- what send wrote lies within the outbox
 fits_in : (qs : List Check) (out bytes : List ℕ) (n : ℕ) → served n ≡ (writing qs out bytes).answer → n ≤ length (writing qs out bytes).lent

@@ -4,7 +4,7 @@ ghost use Rattle.model.specs.Values.{limits_in};
 ghost use Rattle.model.specs.Image.{words_of};
 ghost use Rattle.model.specs.Calls.{number_of};
 ghost use Rattle.model.specs.DividedRun.{receiving, releasing, redirecting, redirect_step, messages_in};
-ghost use Rattle.answers.specs.Answers.{answer-of};
+ghost use Rattle.answers.specs.Answers.{answer_of};
 ghost use Rattle.mesh.specs.Parts.{block_count};
 ghost use Rattle.rounds.specs.Played.{Stepped, Ran, at_block};
 
@@ -22,7 +22,7 @@ pub fn own_words(viewers: u32, b: usize) -> usize
 // Receive at block b, which the mesh has.
 fn receive_part(mesh: &mut [u64], viewers: u32, b: usize, message: &[u8]) -> Answer
     requires { b < block_count mesh.old }
-    ensures { Stepped viewers mesh.old (at_block b (receiving message.now)) (number_of (answer-of result)) mesh.new }
+    ensures { Stepped viewers mesh.old (at_block b (receiving message.now)) (number_of (answer_of result)) mesh.new }
 {
     let from = b * Header::WORDS;
     let end = from + own_words(viewers, b);
@@ -32,7 +32,7 @@ fn receive_part(mesh: &mut [u64], viewers: u32, b: usize, message: &[u8]) -> Ans
 // Release at block b, which the mesh has.
 fn release_part(mesh: &mut [u64], viewers: u32, b: usize, to: u64, serial: u64) -> Answer
     requires { b < block_count mesh.old }
-    ensures { Stepped viewers mesh.old (at_block b (releasing to serial)) (number_of (answer-of result)) mesh.new }
+    ensures { Stepped viewers mesh.old (at_block b (releasing to serial)) (number_of (answer_of result)) mesh.new }
 {
     let from = b * Header::WORDS;
     let end = from + own_words(viewers, b);
@@ -42,7 +42,7 @@ fn release_part(mesh: &mut [u64], viewers: u32, b: usize, to: u64, serial: u64) 
 // Redirect at block b, which the mesh has.
 fn redirect_part(mesh: &mut [u64], viewers: u32, b: usize, message: &[u8]) -> Answer
     requires { b < block_count mesh.old }
-    ensures { Stepped viewers mesh.old (at_block b (redirecting message.now)) (number_of (answer-of result)) mesh.new }
+    ensures { Stepped viewers mesh.old (at_block b (redirecting message.now)) (number_of (answer_of result)) mesh.new }
 {
     let from = b * Header::WORDS;
     let end = from + own_words(viewers, b);
@@ -51,7 +51,7 @@ fn redirect_part(mesh: &mut [u64], viewers: u32, b: usize, message: &[u8]) -> An
 
 // Receive at any block.
 pub fn receive_at(mesh: &mut [u64], viewers: u32, b: u64, message: &[u8]) -> Answer
-    ensures { Stepped viewers mesh.old (at_block b (receiving message.now)) (number_of (answer-of result)) mesh.new }
+    ensures { Stepped viewers mesh.old (at_block b (receiving message.now)) (number_of (answer_of result)) mesh.new }
 {
     if (mesh.len() / Header::WORDS) as u64 <= b {
         return Answer::Refused(Refusal::MemorySize);
@@ -61,7 +61,7 @@ pub fn receive_at(mesh: &mut [u64], viewers: u32, b: u64, message: &[u8]) -> Ans
 
 // Release at any block.
 pub fn release_at(mesh: &mut [u64], viewers: u32, b: u64, to: u64, serial: u64) -> Answer
-    ensures { Stepped viewers mesh.old (at_block b (releasing to serial)) (number_of (answer-of result)) mesh.new }
+    ensures { Stepped viewers mesh.old (at_block b (releasing to serial)) (number_of (answer_of result)) mesh.new }
 {
     if (mesh.len() / Header::WORDS) as u64 <= b {
         return Answer::Refused(Refusal::MemorySize);
@@ -71,7 +71,7 @@ pub fn release_at(mesh: &mut [u64], viewers: u32, b: u64, to: u64, serial: u64) 
 
 // Redirect at any block.
 pub fn redirect_at(mesh: &mut [u64], viewers: u32, b: u64, message: &[u8]) -> Answer
-    ensures { Stepped viewers mesh.old (at_block b (redirecting message.now)) (number_of (answer-of result)) mesh.new }
+    ensures { Stepped viewers mesh.old (at_block b (redirecting message.now)) (number_of (answer_of result)) mesh.new }
 {
     if (mesh.len() / Header::WORDS) as u64 <= b {
         return Answer::Refused(Refusal::MemorySize);

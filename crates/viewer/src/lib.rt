@@ -4,7 +4,7 @@
 
 ghost use Rattle.model.specs.Values.{viewer};
 ghost use Rattle.model.specs.Calls as calls;
-ghost use Rattle.answers.specs.Answers.{answer-of, written_of, Gives};
+ghost use Rattle.answers.specs.Answers.{answer_of, written_of, Gives};
 
 use answers::{Answer, Written};
 use memory::header;
@@ -15,14 +15,14 @@ const DRAFT: usize = 520;
 
 // Makes an empty block: 1, 9.
 pub fn empty(number: u64, block: &mut [u64]) -> Answer
-    ensures { Gives (calls.empty viewer number block.old) (answer-of result) block.new }
+    ensures { Gives (calls.empty viewer number block.old) (answer_of result) block.new }
 {
     header::empty_by(Limits::viewer(), number, block)
 }
 
 // Reads a file into a block: 1, 3 to 8.
 pub fn read_file(file: &[u8], block: &mut [u64]) -> Answer
-    ensures { Gives (calls.read_file viewer file.now block.old) (answer-of result) block.new }
+    ensures { Gives (calls.read_file viewer file.now block.old) (answer_of result) block.new }
 {
     let mut made = [0u64; Header::VIEWER_WORDS];
     let mut seen = [0u8; Header::VIEWER_DARTS];
@@ -81,7 +81,7 @@ pub fn write_pages(block: &[u64], out: &mut [u8]) -> Written
 
 // Reads pages into a block: 1, 3, 5 to 7.
 pub fn read_pages(pages: &[u8], block: &mut [u64]) -> Answer
-    ensures { Gives (calls.read_pages viewer pages.now block.old) (answer-of result) block.new }
+    ensures { Gives (calls.read_pages viewer pages.now block.old) (answer_of result) block.new }
 {
     let mut made = [0u64; Header::VIEWER_WORDS];
     let mut seen = [0u8; Header::VIEWER_DARTS];
@@ -137,7 +137,7 @@ pub fn send(block: &[u64], to: u64, serial: u64, outbox: &mut [u8]) -> Written
 
 // Lets a volume go: 1, 2, 9 to 14.
 pub fn release(block: &mut [u64], to: u64, serial: u64) -> Answer
-    ensures { Gives (calls.release viewer block.old to serial) (answer-of result) block.new }
+    ensures { Gives (calls.release viewer block.old to serial) (answer_of result) block.new }
 {
     let mut met = [0u8; Header::VIEWER_DARTS];
     let mut keys = [0u64; Header::VIEWER_DARTS];
@@ -171,7 +171,7 @@ pub fn release(block: &mut [u64], to: u64, serial: u64) -> Answer
 
 // Takes the volume that a transfer brings: 1, 2, 16, 17, 29, 18 to 21.
 pub fn receive(block: &mut [u64], message: &[u8]) -> Answer
-    ensures { Gives (calls.receive viewer block.old message.now) (answer-of result) block.new }
+    ensures { Gives (calls.receive viewer block.old message.now) (answer_of result) block.new }
 {
     let mut vertex = [0u64; Header::MESSAGE];
     let mut serial = [0u64; Header::MESSAGE];
@@ -224,7 +224,7 @@ pub fn receive(block: &mut [u64], message: &[u8]) -> Answer
 
 // Redirects the faces that an update names: 1, 2, 16, 17, 22.
 pub fn redirect(block: &mut [u64], message: &[u8]) -> Answer
-    ensures { Gives (calls.redirect viewer block.old message.now) (answer-of result) block.new }
+    ensures { Gives (calls.redirect viewer block.old message.now) (answer_of result) block.new }
 {
     let mut vertex = [0u64; Header::MESSAGE];
     let mut serial = [0u64; Header::MESSAGE];

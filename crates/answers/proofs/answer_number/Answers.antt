@@ -1,9 +1,9 @@
 -- `answers::answer_number` meets its contract. A refusal has its question's number. Assumes nothing.
 use mathlib.Core.Path.{sym, ap, ◌∙◌}
 use Rattle.model.specs.Calls.{number_of}
-use Rattle.answers.specs.Answers.{answer-of}
+use Rattle.answers.specs.Answers.{answer_of}
 use Rattle.answers.proofs.answer_number.Goals as goal
 
 pub returns-in-Refused : goal.returns-in-Refused
 returns-in-Refused c =
-    c.refusal_number.ensures ∙ sym (ap (λ x. number_of (answer-of x)) c.in-Refused.is)
+    c.refusal_number.ensures ∙ sym (ap (λ x. number_of (answer_of x)) c.in-Refused.is)

@@ -1,9 +1,9 @@
 -- `answers::move_number` meets its contract. A refusal has its question's number. Assumes nothing.
 use mathlib.Core.Path.{sym, ap, ◌∙◌}
 use Rattle.model.specs.Calls.{number_of}
-use Rattle.answers.specs.Answers.{move-of}
+use Rattle.answers.specs.Answers.{move_of}
 use Rattle.answers.proofs.move_number.Goals as goal
 
 pub returns-in-Refused : goal.returns-in-Refused
 returns-in-Refused c =
-    c.refusal_number.ensures ∙ sym (ap (λ x. number_of (move-of x)) c.in-Refused.is)
+    c.refusal_number.ensures ∙ sym (ap (λ x. number_of (move_of x)) c.in-Refused.is)

@@ -2,7 +2,7 @@
 -- Assumes nothing.
 use Rattle.std.proofs.Common.{sym, ap, ◌∙◌}
 use Rattle.model.specs.Image.{block_in}
-use Rattle.answers.specs.Answers.{answer-of}
+use Rattle.answers.specs.Answers.{answer_of}
 use Rattle.answers.proofs.Questions.{said_no, said_yes}
 use Rattle.newblock.proofs.Answered.{links_told, coordinates_no, links_no, points_no, all_yes}
 use Rattle.newblock.proofs.block_answer.Goals as goal
@@ -13,7 +13,7 @@ returns-then-not-coordinates_finite c =
 
 pub points_agree-requires : goal.points_agree-requires
 points_agree-requires c =
-    let linked = links_told (block_in c.args.block.now) (ap answer-of (sym c.in-Served.is) ∙ c.link_answer.ensures) in (
+    let linked = links_told (block_in c.args.block.now) (ap answer_of (sym c.in-Served.is) ∙ c.link_answer.ensures) in (
       c.requires.block_in_bounds.0,
       c.requires.block_in_bounds.1,
       said_yes c.coordinates_finite.ensures c.if-not-coordinates_finite.false,
@@ -24,14 +24,14 @@ points_agree-requires c =
 pub returns-then-not-points_agree : goal.returns-then-not-points_agree
 returns-then-not-points_agree c =
     points_no (block_in c.args.block.now) (said_yes c.coordinates_finite.ensures c.if-not-coordinates_finite.false)
-    (ap answer-of (sym c.in-Served.is) ∙ c.link_answer.ensures) (said_no c.points_agree.ensures c.if-not-points_agree.true)
+    (ap answer_of (sym c.in-Served.is) ∙ c.link_answer.ensures) (said_no c.points_agree.ensures c.if-not-points_agree.true)
 
 pub returns-else-not-points_agree : goal.returns-else-not-points_agree
 returns-else-not-points_agree c =
     all_yes (block_in c.args.block.now) (said_yes c.coordinates_finite.ensures c.if-not-coordinates_finite.false)
-    (ap answer-of (sym c.in-Served.is) ∙ c.link_answer.ensures) (said_yes c.points_agree.ensures c.if-not-points_agree.false)
+    (ap answer_of (sym c.in-Served.is) ∙ c.link_answer.ensures) (said_yes c.points_agree.ensures c.if-not-points_agree.false)
 
 pub returns-in-Refused : goal.returns-in-Refused
 returns-in-Refused c =
     links_no (block_in c.args.block.now) (said_yes c.coordinates_finite.ensures c.if-not-coordinates_finite.false)
-    (ap answer-of (sym c.in-Refused.is) ∙ c.link_answer.ensures)
+    (ap answer_of (sym c.in-Refused.is) ∙ c.link_answer.ensures)

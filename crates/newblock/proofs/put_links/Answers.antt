@@ -1,7 +1,7 @@
 -- `newblock::put_links` meets its contract: the questions are put to the image, and answered as of the block in serials.
 -- Assumes nothing.
 use Rattle.std.proofs.Common.{sym, ap, ◌∙◌, arith}
-use Rattle.answers.specs.Answers.{answer-of}
+use Rattle.answers.specs.Answers.{answer_of}
 use Rattle.newblock.proofs.Imaged.{image_ranged, image_count, image_fits}
 use Rattle.newblock.proofs.Answered.{links_refused, links_served}
 use Rattle.newblock.proofs.put_links.Goals as goal
@@ -18,8 +18,8 @@ link_answer-requires c =
 
 pub returns-in-Served : goal.returns-in-Served
 returns-in-Served c =
-    links_served c.requires.block_len.1 c.resolve.ensures c.args.block.now (ap answer-of (sym c.in-Served.is) ∙ c.link_answer.ensures) c.copy.ensures
+    links_served c.requires.block_len.1 c.resolve.ensures c.args.block.now (ap answer_of (sym c.in-Served.is) ∙ c.link_answer.ensures) c.copy.ensures
 
 pub returns-in-Refused : goal.returns-in-Refused
 returns-in-Refused c =
-    links_refused c.requires.block_len.1 c.resolve.ensures c.args.block.now (ap answer-of (sym c.in-Refused.is) ∙ c.link_answer.ensures)
+    links_refused c.requires.block_len.1 c.resolve.ensures c.args.block.now (ap answer_of (sym c.in-Refused.is) ∙ c.link_answer.ensures)
