@@ -28,7 +28,8 @@ pub enum Call {
     ViewerReadPages,
 }
 
-pub const CALLS: [Call; 20] = [
+/// Those that are not on pages.
+pub const CALLS: [Call; 16] = [
     Call::Empty,
     Call::ReadFile,
     Call::SaveFile,
@@ -45,11 +46,14 @@ pub const CALLS: [Call; 20] = [
     Call::ViewerReceive,
     Call::ViewerRelease,
     Call::ViewerRedirect,
-    Call::WritePages,
-    Call::ReadPages,
-    Call::ViewerWritePages,
-    Call::ViewerReadPages,
 ];
+
+pub const CALLS_ON_PAGES: [Call; 4] = [Call::WritePages, Call::ReadPages, Call::ViewerWritePages, Call::ViewerReadPages];
+
+/// All calls, in the order of the vector files.
+pub fn all_calls() -> Vec<Call> {
+    [CALLS.as_slice(), &CALLS_ON_PAGES].concat()
+}
 
 /// The calls on one block: the rack's, and a viewer's that does the same.
 const PAIRS: [(Call, Call); 9] = [

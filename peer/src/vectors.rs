@@ -3,7 +3,7 @@
 mod pages;
 
 use crate::calls;
-use crate::cases::{Call, Case, CALLS};
+use crate::cases::{all_calls, Call, Case, CALLS, CALLS_ON_PAGES};
 use crate::damage::{self, requests};
 use crate::file;
 use crate::generate::{self, Size};
@@ -633,11 +633,11 @@ pub fn vectors(seed: u64, call: Call, wanted: usize) -> Vec<u8> {
     file_of(&records(seed, call, wanted))
 }
 
-/// Bytes that the gate's file may have, those of pages apart.
+/// Bytes that the gate's file may have.
 pub const GATE_BYTES: usize = 720_000;
 
-/// Bytes that it may have with them.
-pub const GATE_BYTES_WITH_PAGES: usize = 998_000;
+/// Bytes that its file of calls on pages may have.
+pub const PAGES_BYTES: usize = 290_000;
 
 /// Words of a mesh that the gate's program has room for: six blocks.
 const GATE_MESH: u32 = 6 * image::WORDS as u32;
@@ -662,51 +662,79 @@ fn has_room(call: Call, record: &[u8]) -> bool {
     }
 }
 
-/// The gate's file, and what a program that plays it has to print.
+/// A file of the gate, and what a program that plays it has to print.
 pub struct Gate {
     pub input: Vec<u8>,
     pub output: String,
 }
 
-fn gate_of<'a>(calls: &'a [(Call, Records)]) -> Gate {
-    let mut input = Vec::new();
-    let mut counts: BTreeMap<Call, BTreeMap<u32, usize>> =
-        calls.iter().map(|(call, _)| (*call, BTreeMap::new())).collect();
-    let mut add = |call: Call, bytes: &[u8], most: usize| {
-        // The byte of the call and the length.
-        if input.len() + 5 + bytes.len() <= most && has_room(call, bytes) {
-            input.push(call as u8);
-            put_bytes(&mut input, bytes);
-            *counts.entry(call).or_default().entry(u32_at(bytes, 0)).or_default() += 1;
-        }
-    };
-    let about_pages = |(call, _): &&(Call, Records)| call.is_about_pages();
-    let others = || calls.iter().filter(|records| !about_pages(records));
-    for (call, records) in others() {
-        records.drawn.iter().for_each(|bytes| add(*call, bytes, GATE_BYTES));
+/// Records for a file of the gate, as far as they fit, and how many there are by call and answer.
+struct Played {
+    most: usize,
+    input: Vec<u8>,
+    counts: BTreeMap<Call, BTreeMap<u32, usize>>,
+}
+
+impl Played {
+    fn new(most: usize, calls: &[(Call, Records)]) -> Self {
+        let counts = calls.iter().map(|(call, _)| (*call, BTreeMap::new())).collect();
+        Self { most, input: Vec::new(), counts }
     }
-    // Those about limits come next, first those that have to be there, short ones first: others are left out where they do not fit.
+
+    fn add(&mut self, call: Call, bytes: &[u8]) {
+        // The byte of the call and the length.
+        if self.input.len() + 5 + bytes.len() <= self.most && has_room(call, bytes) {
+            self.input.push(call as u8);
+            put_bytes(&mut self.input, bytes);
+            *self.counts.entry(call).or_default().entry(u32_at(bytes, 0)).or_default() += 1;
+        }
+    }
+
+    fn answers(&self) -> String {
+        let mut output = String::new();
+        for (call, answers) in &self.counts {
+            output += &format!("{}\n", call.name());
+            answers.iter().for_each(|(answer, count)| output += &format!("{answer}: {count}\n"));
+        }
+        output
+    }
+
+    fn found(&self) -> String {
+        let all: usize = self.counts.values().flat_map(BTreeMap::values).sum();
+        format!("as told: {all}\nanother answer: 0\nother content: 0\ncannot be read: 0\npassed over: 0\n")
+    }
+}
+
+fn gate_of<'a>(calls: &'a [(Call, Records)]) -> Gate {
+    let mut played = Played::new(GATE_BYTES, calls);
+    for (call, records) in calls {
+        records.drawn.iter().for_each(|bytes| played.add(*call, bytes));
+    }
+    // Those about limits come last, first those that have to be there, short ones first: others are left out where they do not fit.
     for needed in [true, false] {
         let of = |(call, records): &'a (Call, Records)| records.limits(*call, needed).map(|bytes| (*call, bytes));
-        let mut limits: Vec<(Call, &Vec<u8>)> = others().flat_map(of).collect();
+        let mut limits: Vec<(Call, &Vec<u8>)> = calls.iter().flat_map(of).collect();
         limits.sort_by_key(|(_, bytes)| bytes.len());
-        limits.into_iter().for_each(|(call, bytes)| add(call, bytes, GATE_BYTES));
+        limits.into_iter().for_each(|(call, bytes)| played.add(call, bytes));
     }
-    for (call, records) in calls.iter().filter(about_pages) {
-        records.drawn.iter().chain(&records.limits).for_each(|bytes| add(*call, bytes, GATE_BYTES_WITH_PAGES));
+    Gate { output: played.answers() + &played.found(), input: played.input }
+}
+
+/// Of calls on pages: each call's drawn cases, then those made by hand.
+fn pages_of(calls: &[(Call, Records)]) -> Gate {
+    let mut played = Played::new(PAGES_BYTES, calls);
+    for (call, records) in calls {
+        records.drawn.iter().chain(&records.limits).for_each(|bytes| played.add(*call, bytes));
     }
-    let mut output = String::new();
-    for (call, answers) in &counts {
-        output += &format!("{}\n", call.name());
-        answers.iter().for_each(|(answer, count)| output += &format!("{answer}: {count}\n"));
-    }
-    let all: usize = counts.values().flat_map(BTreeMap::values).sum();
-    output += &format!("as told: {all}\nanother answer: 0\nother content: 0\ncannot be read: 0\npassed over: 0\n");
-    Gate { input, output }
+    Gate { output: played.found(), input: played.input }
 }
 
 pub fn gate(seed: u64, wanted: usize) -> Gate {
     gate_of(&CALLS.map(|call| (call, records(seed, call, wanted))))
+}
+
+pub fn pages_gate(seed: u64, wanted: usize) -> Gate {
+    pages_of(&CALLS_ON_PAGES.map(|call| (call, records(seed, call, wanted))))
 }
 
 /// Writes the files of all calls and the gate's; gives the total length of the calls' files.
@@ -714,15 +742,17 @@ pub fn write(seed: u64, wanted: usize, folder: &Path) -> std::io::Result<usize> 
     std::fs::create_dir_all(folder)?;
     let mut total = 0;
     let mut played = Vec::new();
-    for call in CALLS {
+    for call in all_calls() {
         let records = records(seed, call, wanted);
         let bytes = file_of(&records);
         total += bytes.len();
         std::fs::write(folder.join(format!("{}.bin", call.name())), bytes)?;
         played.push((call, records));
     }
-    let gate = gate_of(&played);
-    std::fs::write(folder.join("gate.bin"), gate.input)?;
-    std::fs::write(folder.join("gate.txt"), gate.output)?;
+    let (calls, on_pages) = played.split_at(CALLS.len());
+    for (name, gate) in [("gate", gate_of(calls)), ("pages", pages_of(on_pages))] {
+        std::fs::write(folder.join(format!("{name}.bin")), gate.input)?;
+        std::fs::write(folder.join(format!("{name}.txt")), gate.output)?;
+    }
     Ok(total)
 }

@@ -5,7 +5,7 @@ mod records;
 #[path = "common/variant.rs"]
 mod variant;
 
-use peer::cases::{Case, CALLS};
+use peer::cases::{all_calls, Case};
 use peer::image::{self, RECORD, VIEWER_WORDS, WORDS};
 use peer::lent::{Core, Peer};
 use peer::listing;
@@ -886,15 +886,14 @@ fn full_is_3(site: Site, of: Site, pages: &[u8], block: &mut [u64]) -> u32 {
 
 /// The gate's records of pages, the short ones first: the case, its answer, what is lent afterwards.
 fn records() -> Vec<(Case, u32, Case)> {
-    let gate = vectors::gate(1, 60);
+    let gate = vectors::pages_gate(1, 60);
+    let calls = all_calls();
     let mut rest = Reader { bytes: &gate.input };
     let mut found = Vec::new();
     while !rest.bytes.is_empty() {
-        let call = CALLS[usize::from(rest.take(1)[0])];
+        let call = calls[usize::from(rest.take(1)[0])];
         let record = rest.bytes();
-        if call.is_about_pages() {
-            found.push((record.len(), parse(call, &record)));
-        }
+        found.push((record.len(), parse(call, &record)));
     }
     found.sort_by_key(|(length, _)| *length);
     found.into_iter().map(|(_, record)| record).collect()

@@ -403,7 +403,7 @@ fn every_byte_of_a_page_counts() {
 /// All that is made by hand, and full blocks of every kind.
 #[test]
 fn plain_equals_value_on_pages() {
-    for call in peer::cases::CALLS.into_iter().filter(|call| call.is_about_pages()) {
+    for call in peer::cases::CALLS_ON_PAGES {
         for case in vectors::limits(call) {
             cases::compare(&case, &Plain, &Peer).unwrap();
         }

@@ -1,6 +1,6 @@
 //! The plain version answers and writes what the value version does.
 
-use peer::cases::{self, CALLS};
+use peer::cases::{self, all_calls};
 use peer::damage;
 use peer::generate::{self, Size};
 use peer::image;
@@ -16,7 +16,7 @@ fn plain_equals_value_on_damaged_input() {
         let mut rng = Rng::new(seed);
         let size = if seed % 3 == 0 { Size::Tiny } else { Size::Small };
         let mesh = generate::mesh(&mut rng, size);
-        for call in CALLS {
+        for call in all_calls() {
             for (way, case) in damage::batch(&mut rng, call, &mesh) {
                 if let Err(what) = cases::compare(&case, &Plain, &Peer) {
                     panic!("seed {seed}, {way}: {what}");
@@ -32,7 +32,7 @@ fn plain_equals_value_on_larger_meshes() {
         let mut rng = Rng::new(seed);
         let size = if seed % 2 == 0 { Size::Large } else { Size::Medium };
         let mesh = generate::mesh_of(&mut rng, size, 3);
-        for call in CALLS {
+        for call in all_calls() {
             for (way, case) in damage::batch(&mut rng, call, &mesh) {
                 if !rng.one_in(4) {
                     continue;

@@ -1,6 +1,6 @@
 //! The generator reaches every answer of every call, several ways each; refused calls change nothing.
 
-use peer::cases::{self, CALLS};
+use peer::cases::{self, all_calls};
 use peer::damage;
 use peer::generate::{self, Size};
 use peer::image::{self, WORDS};
@@ -15,7 +15,7 @@ fn every_answer_is_reached_several_ways() {
     for seed in 0..40 {
         let mut rng = Rng::new(seed);
         let mesh = generate::mesh(&mut rng, Size::Small);
-        for call in CALLS {
+        for call in all_calls() {
             for (way, case) in damage::batch(&mut rng, call, &mesh) {
                 let mut after = case.clone();
                 let answer = after.run(&Peer);
@@ -27,13 +27,13 @@ fn every_answer_is_reached_several_ways() {
             }
         }
     }
-    for call in CALLS {
+    for call in all_calls() {
         for answer in call.answers() {
             let (times, ways) = reached.get(&(call.name(), *answer)).cloned().unwrap_or_default();
             println!("{:10} {answer:2}: {times:5} times, {} ways", call.name(), ways.len());
         }
     }
-    for call in CALLS {
+    for call in all_calls() {
         for answer in call.answers() {
             let ways = reached.get(&(call.name(), *answer)).map_or(0, |(_, ways)| ways.len());
             assert!(ways >= 2, "{} answers {answer} only {ways} ways", call.name());

@@ -3,10 +3,9 @@
 #[path = "common/records.rs"]
 mod records;
 
-use peer::cases::{Call, Case, CALLS};
+use peer::cases::{Call, CALLS};
 use peer::image::WORDS;
 use peer::lent::Peer;
-use peer::value::Site;
 use peer::vectors;
 use records::{parse, Reader};
 use std::collections::{BTreeMap, BTreeSet};
@@ -31,10 +30,10 @@ fn the_default_set_is_small_complete_and_right() {
         }
         println!("{}: {count} cases, {} bytes, answers {answers:?}", call.name(), file.len());
         assert_eq!(answers, call.answers().iter().copied().collect(), "{}", call.name());
-        assert!(long <= 5, "{}: {long} long records", call.name());
+        assert!(long <= 4, "{}: {long} long records", call.name());
     }
     println!("{total} bytes in all");
-    assert!(total < 3_250_000, "{total}");
+    assert!(total < 2_250_000, "{total}");
 }
 
 #[test]
@@ -50,7 +49,7 @@ fn vectors_are_deterministic() {
 #[test]
 fn the_gate_has_every_answer() {
     let gate = vectors::gate(1, 60);
-    assert!(gate.input.len() <= vectors::GATE_BYTES_WITH_PAGES);
+    assert!(gate.input.len() <= vectors::GATE_BYTES);
     let mut rest = Reader { bytes: &gate.input };
     let mut counts = BTreeMap::<(Call, u32), usize>::new();
     let mut sorts = BTreeSet::new();
@@ -88,37 +87,11 @@ fn the_gate_has_the_limits_of_a_viewer() {
         played.insert((call, rest.bytes()));
     }
     let mut count = 0;
-    for call in CALLS.into_iter().filter(|call| *call >= Call::CheckMesh && !call.is_about_pages()) {
+    for call in CALLS.into_iter().filter(|call| *call >= Call::CheckMesh) {
         for case in vectors::limits(call) {
             assert!(played.contains(&(call, vectors::record(&case).1)), "{}", call.name());
             count += 1;
         }
     }
     assert!(count > 50, "{count}");
-}
-
-/// All pages that are wanted are in the gate's file, behind the records of the other calls: the dart counts about the ends of pages, and
-/// those of full blocks.
-#[test]
-fn the_gate_has_the_pages() {
-    let gate = vectors::gate(1, 60);
-    let mut rest = Reader { bytes: &gate.input };
-    let (mut written, mut read) = (BTreeSet::new(), BTreeSet::new());
-    let mut others_end = false;
-    while !rest.bytes.is_empty() {
-        let call = CALLS[usize::from(rest.take(1)[0])];
-        let (_, answer, after) = parse(call, &rest.bytes());
-        assert!(call.is_about_pages() || !others_end);
-        others_end = call.is_about_pages();
-        match after {
-            Case::WritePages { site, block, .. } if answer == 0 => written.insert((site, block[2])),
-            Case::ReadPages { site, block, .. } if answer == 0 => read.insert((site, block[2])),
-            _ => continue,
-        };
-    }
-    for count in [0, 2, 58, 60, 118, 120] {
-        assert!(written.contains(&(Site::Rack, count)) && read.contains(&(Site::Rack, count)), "{count}");
-    }
-    assert!(read.contains(&(Site::Rack, 4096)));
-    assert!(written.contains(&(Site::Viewer, 256)) && read.contains(&(Site::Viewer, 256)));
 }

@@ -1,7 +1,7 @@
 //! The archive against the second implementation on drawn cases: answer and every lent byte. Prints how often each call gave each answer.
 
 use compare::archive::Archive;
-use peer::cases::CALLS;
+use peer::cases::all_calls;
 use peer::compare::{self as cores, Table};
 use peer::lent::Peer;
 use std::process::ExitCode;
@@ -12,7 +12,7 @@ fn main() -> ExitCode {
         eprintln!("compare SEED N");
         return ExitCode::FAILURE;
     };
-    match cores::compare(&Archive, &Peer, &CALLS, seed, count as usize) {
+    match cores::compare(&Archive, &Peer, &all_calls(), seed, count as usize) {
         Ok(table) => report(&table),
         Err(what) => {
             eprintln!("{what}");
@@ -24,7 +24,7 @@ fn main() -> ExitCode {
 /// A line for each call: its answers and how often each came. An answer that never came is a failure.
 fn report(table: &Table) -> ExitCode {
     let mut missed = false;
-    for call in CALLS {
+    for call in all_calls() {
         let times = |answer: u32| table.get(&(call.name(), answer)).copied().unwrap_or(0);
         let shown: Vec<String> = call.answers().iter().map(|answer| format!("{answer}: {}", times(*answer))).collect();
         println!("{:18}  {}", call.name(), shown.join(", "));

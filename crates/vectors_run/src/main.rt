@@ -36,10 +36,6 @@ fn name(call: u8) {
         13 => io::write_all(1, b"viewer_receive"),
         14 => io::write_all(1, b"viewer_release"),
         15 => io::write_all(1, b"viewer_redirect"),
-        16 => io::write_all(1, b"write_pages"),
-        17 => io::write_all(1, b"read_pages"),
-        18 => io::write_all(1, b"viewer_write_pages"),
-        19 => io::write_all(1, b"viewer_read_pages"),
         _ => io::write_all(1, b"no call"),
     };
 }
@@ -92,18 +88,7 @@ fn play_mesh(
     vectors::next_move_case(record, mesh, block, told)
 }
 
-// Of a call on pages.
-fn play_pages(call: u8, record: &[u8], block: &mut [u64], told: &mut [u64], out: &mut [u8]) -> u32 {
-    match call {
-        16 => vectors::write_pages_case(false, record, block, out),
-        17 => vectors::read_pages_case(false, record, block, told, out),
-        18 => vectors::write_pages_case(true, record, block, out),
-        19 => vectors::read_pages_case(true, record, block, told, out),
-        _ => vectors::UNREADABLE,
-    }
-}
-
-// One record of a call: a viewer's calls on a block follow those on a mesh, in the order of the rack's; those on pages come last.
+// One record of a call: a viewer's calls on a block follow those on a mesh, in the order of the rack's.
 fn play(
     call: u8,
     record: &[u8],
@@ -112,9 +97,6 @@ fn play(
     told: &mut [u64],
     out: &mut [u8],
 ) -> u32 {
-    if 16 <= call {
-        return play_pages(call, record, block, told, out);
-    }
     if 9 <= call {
         return play_block(true, call - 9, record, block, told, out);
     }
@@ -141,7 +123,7 @@ fn count_at(counts: &[u64; 1024], i: usize) -> u64 {
 
 // Where records of a call with an answer are counted: 32 counts a call, and the last for what is none.
 fn place(call: usize, answer: usize) -> usize {
-    if call < 20 {
+    if call < 16 {
         if answer < 32 {
             return call * 32 + answer;
         }
@@ -152,7 +134,7 @@ fn place(call: usize, answer: usize) -> usize {
 // Where records are counted by what was found: as told, another answer, other content, unreadable, passed over.
 fn found(res: usize) -> usize {
     if res < 5 {
-        return 640 + res;
+        return 512 + res;
     }
     1023
 }
@@ -266,7 +248,7 @@ fn show_call(counts: &[u64; 1024], call: u8) {
     name(call);
     io::write_all(1, b"\n");
     let mut answer: usize = 0;
-    while answer < 31 {
+    while answer < 30 {
         show_answer(counts, byte_size(call), answer);
         answer += 1;
     }
@@ -295,10 +277,6 @@ fn show(counts: &[u64; 1024]) {
     show_call(counts, 13);
     show_call(counts, 14);
     show_call(counts, 15);
-    show_call(counts, 16);
-    show_call(counts, 17);
-    show_call(counts, 18);
-    show_call(counts, 19);
     show_found(counts, b"as told: ", vectors::AS_TOLD);
     show_found(counts, b"another answer: ", vectors::OTHER_ANSWER);
     show_found(counts, b"other content: ", vectors::OTHER_CONTENT);
@@ -307,11 +285,11 @@ fn show(counts: &[u64; 1024]) {
 }
 
 fn main() {
-    let mut room = [0u8; 196608];
+    let mut room = [0u8; 131072];
     let mut mesh = [0u64; 196656];
     let mut block = [0u64; 65552];
     let mut told = [0u64; 65552];
-    let mut out = [0u8; 393216];
+    let mut out = [0u8; 262144];
     let mut counts = [0u64; 1024];
     play_all(
         &mut room,

@@ -9,4 +9,4 @@ invariant-loop-answer l =
 
 abbrev pub decreases-loop-answer : goal.decreases-loop-answer
 decreases-loop-answer l =
-    31 - l.answer
+    30 - l.answer
