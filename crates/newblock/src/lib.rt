@@ -82,7 +82,7 @@ pub fn put_block(
     requires made_in_bounds_2 { (count made.old ≤ length keys.old) × (count made.old ≤ length scratch.old) × (table.old ≡ replicate slot_count 0) }
     ensures { Gives (storing_block made.old block.old) (answer_of result) block.new }
 {
-    place::resolve(made, keys, scratch);
+    place::resolve_by(made, keys, scratch);
     match block_answer(made, seen, keys, table, scratch) {
         Answer::Served => {
             sort::table::copy(made, block);
@@ -106,7 +106,7 @@ pub fn put_links(
     requires made_in_bounds_2 { (count made.old ≤ length keys.old) × (count made.old ≤ length scratch.old) × (table.old ≡ replicate slot_count 0) }
     ensures { Gives (storing_links made.old block.old) (answer_of result) block.new }
 {
-    place::resolve(made, keys, scratch);
+    place::resolve_by(made, keys, scratch);
     match link_answer(made, seen, keys, table, scratch) {
         Answer::Served => {
             sort::table::copy(made, block);

@@ -185,10 +185,20 @@ fn place_all(block: &mut [u64], first: &[u64], second: &[u64])
 }
 
 // The image of the block that the memory has in serials. Two tables are lent for hints.
-pub fn resolve(block: &mut [u64], first: &mut [u64], second: &mut [u64])
+pub fn resolve_by(block: &mut [u64], first: &mut [u64], second: &mut [u64])
     requires { InSerials block.old }
     ensures { block.new ≡ image (length block.old) (raw_block block.old) }
 {
     put_hints(block, block[Header::COUNT] as usize, first, second);
     place_all(block, first, second);
+}
+
+// The same with no hints.
+pub fn resolve(block: &mut [u64])
+    requires { InSerials block.old }
+    ensures { block.new ≡ image (length block.old) (raw_block block.old) }
+{
+    let mut first = [0u64; 0];
+    let mut second = [0u64; 0];
+    resolve_by(block, &mut first, &mut second);
 }

@@ -8,18 +8,18 @@ use Rattle.newblock.proofs.put_links.Goals as goal
 
 pub link_answer-requires : goal.link_answer-requires
 link_answer-requires c =
-    let few = image_count c.requires.block_len.1 c.resolve.ensures in
+    let few = image_count c.requires.block_len.1 c.resolve_by.ensures in
     let keys_long = c.requires.made_in_bounds_2 in
     record {
-      block_in_bounds = (image_fits c.requires.block_len.1 c.resolve.ensures, image_ranged c.requires.block_len.1 c.resolve.ensures);
+      block_in_bounds = (image_fits c.requires.block_len.1 c.resolve_by.ensures, image_ranged c.requires.block_len.1 c.resolve_by.ensures);
       block_in_bounds_2 = (omega (arith, few, c.requires.made_in_bounds.0), c.requires.made_in_bounds.1);
       block_in_bounds_3 = (omega (arith, few, keys_long.0), omega (arith, few, keys_long.1), keys_long.2);
     }
 
 pub returns-in-Served : goal.returns-in-Served
 returns-in-Served c =
-    links_served c.requires.block_len.1 c.resolve.ensures c.args.block.now (ap answer_of (sym c.in-Served.is) ∙ c.link_answer.ensures) c.copy.ensures
+    links_served c.requires.block_len.1 c.resolve_by.ensures c.args.block.now (ap answer_of (sym c.in-Served.is) ∙ c.link_answer.ensures) c.copy.ensures
 
 pub returns-in-Refused : goal.returns-in-Refused
 returns-in-Refused c =
-    links_refused c.requires.block_len.1 c.resolve.ensures c.args.block.now (ap answer_of (sym c.in-Refused.is) ∙ c.link_answer.ensures)
+    links_refused c.requires.block_len.1 c.resolve_by.ensures c.args.block.now (ap answer_of (sym c.in-Refused.is) ∙ c.link_answer.ensures)
