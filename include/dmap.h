@@ -37,7 +37,7 @@ extern "C" {
 #endif
 
 /* Raised by every change of a call, an answer, a size or a layout. */
-#define DMAP_VERSION 4
+#define DMAP_VERSION 3
 
 /* Words of a block's memory, on the rack and in a mesh; and at a viewer. */
 #define DMAP_WORDS 32776
@@ -66,7 +66,7 @@ enum {
     DMAP_SERVED = 0,
     DMAP_MEMORY_SIZE = 1,           /* is lent memory of the stated size? */
     DMAP_NOT_AN_IMAGE = 2,          /* is memory given as a block a sound block's image? */
-    DMAP_FILE_LAYOUT = 3,           /* is a file right to its last byte, or are pages? */
+    DMAP_FILE_LAYOUT = 3,           /* is a file right to its last byte? */
     DMAP_COORDINATE_NOT_FINITE = 4, /* are coordinates finite? */
     DMAP_LINKS_WRONG = 5,           /* are next and opposite right? */
     DMAP_THIRD_LINKS_WRONG = 6,     /* are third links right, each face of one kind? */
@@ -102,7 +102,7 @@ static inline const char *dmap_words(uint32_t answer) {
         "served",
         "lent memory is not of the stated size",
         "memory is not a sound block's image",
-        "the bytes are not a block's file, or not its pages",
+        "the file's bytes are not a block's",
         "a coordinate is not finite",
         "next or opposite is wrong",
         "a third link is wrong",

@@ -22,16 +22,10 @@ command() {
     s) "$dispatch" split 4 ;;
     c) "$dispatch" check ;;
     l) "$dispatch" list 0 ;;
-    w) "$dispatch" wall 0 ;;
-    u) "$dispatch" unwall 0 <"$work/pages" ;;
     d) "$dispatch" balance all --dry-run ;;
     esac
 }
 quick() { LD_PRELOAD="$work/stop.so" SHORT_WAIT=1 command "$1"; }
-
-# The pages of a block as it was at first.
-fresh none
-"$dispatch" wall 0 >"$work/pages"
 
 # The states that any order of two writers leads to, from the basin: a folder for each, by its letters, with what a check says of it.
 for one in b p q s; do
@@ -40,7 +34,8 @@ for one in b p q s; do
         [ $one = $two ] || { rm -rf "$work/$one$two"; cp -r "$work/$one" "$work/$one$two"; cd "$work/$one$two"; command $two >/dev/null; }
     done
 done
-for state in "$work"/{none,b,p,q,s,bp,bq,bs,pb,pq,ps,qb,qp,qs,sb,sp,sq}; do (cd "$state"; for reader in c l w u d; do command $reader >"$state.$reader"; done); done
+fresh none
+for state in "$work"/{none,b,p,q,s,bp,bq,bs,pb,pq,ps,qb,qp,qs,sb,sp,sq}; do (cd "$state"; for reader in c l d; do command $reader >"$state.$reader"; done); done
 
 # Whether this folder, once it is mended, is one of some states.
 is_one_of() {
@@ -83,7 +78,7 @@ beside() {
     kill -CONT "$(cat "$work/stopped")"
     wait "$job" || true
     case $two in
-    c | l | w | u | d)
+    c | l | d)
         read_one_of "$two" none "$one" || fail "$two beside $one stopped at call $at saw a mix"
         is_one_of "$one" || fail "$one, stopped at call $at while $two ran, was not saved"
         ;;
@@ -92,7 +87,7 @@ beside() {
     met=$((met + 1))
 }
 for one in b p s; do
-    for two in c l w u d b p q s; do
+    for two in c l d b p q s; do
         [ $one = $two ] && continue
         call=1
         while beside $one $two $call; do call=$((call + 1)); done
@@ -100,17 +95,17 @@ for one in b p s; do
 done
 
 # Pairs at random, at one moment.
-letters=(b p q s c l w u d)
+letters=(b p q s c l d)
 turned=0
 for ((n = 0; n < pairs; n++)); do
-    one=${letters[RANDOM % 4]} two=${letters[RANDOM % 9]}
+    one=${letters[RANDOM % 4]} two=${letters[RANDOM % 7]}
     fresh run
     quick "$one" >"$work/first" 2>&1 &
     quick "$two" >"$work/said" 2>&1 || true
     wait || true
     grep -q 'is writing this basin' "$work/first" "$work/said" && turned=$((turned + 1))
     case $two in
-    c | l | w | u | d)
+    c | l | d)
         read_one_of "$two" none "$one" || fail "$two beside $one saw a mix"
         is_one_of "$one" || fail "$one, while $two ran, was not saved"
         ;;

@@ -38,14 +38,6 @@ fn save_file(block: &[u64], out: &mut [u8]) {
     written(savefile::save_file(block, out));
 }
 
-fn write_pages(block: &[u64], out: &mut [u8]) {
-    written(writepages::write_pages(block, out));
-}
-
-fn read_pages(block: &mut [u64], pages: &[u8]) {
-    answered(readpages::read_pages(pages, block));
-}
-
 fn send(line: &[u8], block: &[u64], outbox: &mut [u8]) {
     written(send::send(block, line::number(line, 3), line::number(line, 4), outbox));
 }
@@ -145,14 +137,6 @@ fn call_with_bytes(line: &[u8], memory: &mut [u64], bytes: &mut [u8]) {
     }
     if line::is(line, b"save_file") {
         save_file(memory, bytes);
-        return;
-    }
-    if line::is(line, b"write_pages") {
-        write_pages(memory, bytes);
-        return;
-    }
-    if line::is(line, b"read_pages") {
-        read_pages(memory, bytes);
         return;
     }
     if line::is(line, b"send") {

@@ -14,13 +14,11 @@ command_in w =
     cond (same_list w (bytes "check")) command.Check
     (cond (same_list w (bytes "list")) command.List
     (cond (same_list w (bytes "cells")) command.Cells
-    (cond (same_list w (bytes "wall")) command.Wall
-    (cond (same_list w (bytes "unwall")) command.Unwall
     (cond (same_list w (bytes "play")) command.Play
     (cond (same_list w (bytes "balance")) command.Balance
     (cond (same_list w (bytes "split")) command.Split
     (cond (same_list w (bytes "add")) command.Add
-    (cond (same_list w (bytes "help")) command.Help command.Unknown)))))))))
+    (cond (same_list w (bytes "help")) command.Help command.Unknown)))))))
 
 unfoldable pub oracle_word_in : List ℕ → OracleWord
 oracle_word_in w =

@@ -9,8 +9,6 @@ pub enum Command {
     Check,
     List,
     Cells,
-    Wall,
-    Unwall,
     Play,
     Balance,
     Split,
@@ -47,12 +45,6 @@ pub fn command_of(word: &[u8]) -> Command
     }
     if words::same(word, b"cells") {
         return Command::Cells;
-    }
-    if words::same(word, b"wall") {
-        return Command::Wall;
-    }
-    if words::same(word, b"unwall") {
-        return Command::Unwall;
     }
     if words::same(word, b"play") {
         return Command::Play;

@@ -19,7 +19,7 @@ fn show_pieces(n: u64) {
 }
 
 // A block's number, as its memory has it.
-pub fn number_in(block: &[u64]) -> u64 {
+fn number_in(block: &[u64]) -> u64 {
     if Header::NUMBER < block.len() {
         return block[Header::NUMBER];
     }

@@ -1,10 +1,9 @@
 // One program for the desk and for the restart: it keeps a basin as block files in the folder that it is run in.
 #![tactic(auto)]
 
-mod block; // block.rt: one block, from its file or from pages
+mod block; // block.rt: one block, from its file
 mod status; // status.rt: how a command ended
 mod tasks; // tasks.rt: what is done to a basin, and saved
-mod wall; // wall.rt: a block on pages, printed, and read again
 
 use answers::Answer;
 use commands::command;
@@ -31,10 +30,6 @@ fn help() {
     say::text(b"  dispatch list B           the darts of block B\n");
     say::text(
         b"  dispatch cells B          the cells of block B: serial, darts, faces, critical faces by block, mean of the corners\n",
-    );
-    say::text(b"  dispatch wall B           the pages of block B, as they are pinned up\n");
-    say::text(
-        b"  dispatch unwall B         pages on standard input: whether they are sound, their darts, whether block B is still the same\n",
     );
     say::text(
         b"  dispatch play             requests 'from to serial' on standard input, one a line\n",
@@ -104,22 +99,15 @@ fn show_listing(file: &[u8], text: &mut [u8]) {
     }
 }
 
-// What list, cells and wall tell of a block once it is read into a block's memory.
-fn tell_block(c: Command, file: &[u8], block: &[u64], rows: &mut [u64], text: &mut [u8]) -> Status {
+// What list and cells tell of a block once it is read into a block's memory.
+fn tell_block(c: Command, file: &[u8], block: &[u64], rows: &mut [u64], text: &mut [u8]) {
     match c {
-        Command::Cells => {
-            cells_text::show(block, rows);
-            Status::Done
-        }
-        Command::Wall => wall::print(block, text),
-        _ => {
-            show_listing(file, text);
-            Status::Done
-        }
+        Command::Cells => cells_text::show(block, rows),
+        _ => show_listing(file, text),
     }
 }
 
-// What list, cells and wall tell of block b's file, or why it is refused.
+// What list and cells tell of block b's file, or why it is refused.
 fn tell_file(
     c: Command,
     b: usize,
@@ -134,11 +122,14 @@ fn tell_file(
             reading::say_refused(b, answers::refusal_number(r));
             Status::Refused
         }
-        Answer::Served => tell_block(c, file, block, rows, text),
+        Answer::Served => {
+            tell_block(c, file, block, rows, text);
+            Status::Done
+        }
     }
 }
 
-// List, cells and wall of block b.
+// List and cells of block b.
 fn tell(
     rt: HostRuntime,
     c: Command,
@@ -164,28 +155,10 @@ fn tell(
     Status::Error
 }
 
-// A command on block b.
-fn tell_of(
-    rt: HostRuntime,
-    c: Command,
-    b: usize,
-    mesh: &mut [u64],
-    rows: &mut [u64],
-    text: &mut [u8],
-    room: &mut [u8],
-) -> Status {
-    if let Command::Unwall = c {
-        return wall::unwall(rt, b, mesh, text, room);
-    }
-    tell(rt, c, b, mesh, rows, text, room)
-}
-
 // How the commands on one block are written.
 fn tell_usage(c: Command) -> Status {
     match c {
         Command::Cells => wrong_words(b"cells B"),
-        Command::Wall => wrong_words(b"wall B"),
-        Command::Unwall => wrong_words(b"unwall B"),
         _ => wrong_words(b"list B"),
     }
 }
@@ -195,7 +168,7 @@ fn words_are(rt: HostRuntime, n: usize, o: Options) -> bool {
     (arguments::count(rt) == n) & !o.dry & !o.whole
 }
 
-// The word of list, cells, wall and unwall.
+// The word of list and cells.
 fn tell_word(
     rt: HostRuntime,
     c: Command,
@@ -214,7 +187,7 @@ fn tell_word(
                 say::error(b"a block's number is 0 to 15");
                 return Status::Error;
             }
-            tell_of(rt, c, b as usize, mesh, rows, text, room)
+            tell(rt, c, b as usize, mesh, rows, text, room)
         }
         Number::Not => tell_usage(c),
     }
@@ -485,8 +458,6 @@ fn work(
         Command::Check => check_word(rt, o, mesh, scratch, room),
         Command::List => tell_word(rt, c, o, mesh, requests, text, room),
         Command::Cells => tell_word(rt, c, o, mesh, requests, text, room),
-        Command::Wall => tell_word(rt, c, o, mesh, requests, text, room),
-        Command::Unwall => tell_word(rt, c, o, mesh, requests, text, room),
         Command::Play => play_word(rt, o, text, requests, outcomes, mesh, scratch, outbox, room),
         _ => do_planned(
             rt,

@@ -37,16 +37,6 @@ fn file_words(question: u32) {
     }
 }
 
-// Why pages were refused; wrong links are told as those of a file.
-pub fn pages_words(question: u32) {
-    match question {
-        3 => text(b"they are cut off, too long, or not as dispatch wall prints them"),
-        7 => text(b"a label occurs twice, names this block, or has no counter above it"),
-        30 => text(b"there is no room for all of them"),
-        _ => file_words(question),
-    }
-}
-
 // Why a request was refused.
 fn round_words(question: u32) {
     match question {

@@ -75,37 +75,6 @@ returns-then-same-8 c =
       sym c.same-8.ensures ∙ c.if-same-8.true,
     )
 
-pub returns-then-same-9 : goal.returns-then-same-9
-unfolding command_in bytes
-returns-then-same-9 c =
-    rw (
-      sym c.same.ensures ∙ c.if-same.false,
-      sym c.same-2.ensures ∙ c.if-same-2.false,
-      sym c.same-3.ensures ∙ c.if-same-3.false,
-      sym c.same-4.ensures ∙ c.if-same-4.false,
-      sym c.same-5.ensures ∙ c.if-same-5.false,
-      sym c.same-6.ensures ∙ c.if-same-6.false,
-      sym c.same-7.ensures ∙ c.if-same-7.false,
-      sym c.same-8.ensures ∙ c.if-same-8.false,
-      sym c.same-9.ensures ∙ c.if-same-9.true,
-    )
-
-pub returns-then-same-10 : goal.returns-then-same-10
-unfolding command_in bytes
-returns-then-same-10 c =
-    rw (
-      sym c.same.ensures ∙ c.if-same.false,
-      sym c.same-2.ensures ∙ c.if-same-2.false,
-      sym c.same-3.ensures ∙ c.if-same-3.false,
-      sym c.same-4.ensures ∙ c.if-same-4.false,
-      sym c.same-5.ensures ∙ c.if-same-5.false,
-      sym c.same-6.ensures ∙ c.if-same-6.false,
-      sym c.same-7.ensures ∙ c.if-same-7.false,
-      sym c.same-8.ensures ∙ c.if-same-8.false,
-      sym c.same-9.ensures ∙ c.if-same-9.false,
-      sym c.same-10.ensures ∙ c.if-same-10.true,
-    )
-
 pub returns : goal.returns
 unfolding command_in bytes
 returns c =
@@ -118,6 +87,4 @@ returns c =
       sym c.same-6.ensures ∙ c.if-same-6.false,
       sym c.same-7.ensures ∙ c.if-same-7.false,
       sym c.same-8.ensures ∙ c.if-same-8.false,
-      sym c.same-9.ensures ∙ c.if-same-9.false,
-      sym c.same-10.ensures ∙ c.if-same-10.false,
     )
