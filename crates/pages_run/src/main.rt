@@ -104,9 +104,8 @@ fn main() {
     let mut told = [0u64; 65552];
     let mut out = [0u8; 393216];
     let mut counts = [0u64; KINDS];
-    // Before the next record there are `number` others.
-    let mut number = 0;
-    while number < 1000000 {
+    // Before a record there are `number` others.
+    for number in 0..1000000 {
         if !play_next(
             number,
             &mut room,
@@ -117,7 +116,6 @@ fn main() {
         ) {
             break;
         }
-        number += 1;
     }
     show(b"as told: ", counts[0]);
     show(b"another answer: ", counts[1]);
