@@ -66,13 +66,13 @@ asked qs before value after =
 unfoldable pub storing : Limits → List Check → List ℕ → Block → Result (Unit {0})
 storing lim qs m b = asked qs m tt (image (words_of lim) b)
 
--- a call that adds the bytes written, whose last question, by its number, is whether the output is long enough; bytes past those written stay
+-- a call that adds the bytes written, whose last question is 15: "Output long enough?"; bytes past those written stay
+unfoldable pub writing : List Check → List ℕ → List ℕ → Result ℕ
+writing qs out bytes = asked (qs ++ (15, leb (length bytes) (length out)) ∷ []) out (length bytes) (bytes ++ drop (length bytes) out)
+
+-- the same where this question has another number
 abbrev pub writing_asked : ℕ → List Check → List ℕ → List ℕ → Result ℕ
 writing_asked n qs out bytes = asked (qs ++ (n, leb (length bytes) (length out)) ∷ []) out (length bytes) (bytes ++ drop (length bytes) out)
-
--- 15: "Output long enough?"
-unfoldable pub writing : List Check → List ℕ → List ℕ → Result ℕ
-writing qs out bytes = writing_asked 15 qs out bytes
 
 -- ONE BLOCK
 -- 1, 9: "An empty block is made from its number alone, counter 0"

@@ -11,12 +11,10 @@ use Rattle.newblock.specs.Serials.{raw_block}
 unfoldable pub link_checks : Block → List Check
 link_checks b = (5, links_right b.darts) ∷ (6, thirds_right b.darts) ∷ (7, labels_right b) ∷ []
 
--- questions of the block, then its image in the place of what was there: 4 to 8, or 5 to 7 alone
-abbrev pub storing_after : (Block → List Check) → List ℕ → List ℕ → Result (Unit {0})
-storing_after checks m before = asked (checks (raw_block m)) before tt (image (length m) (raw_block m))
-
+-- 4 to 8, then its image in the place of what was there
 abbrev pub storing_block : List ℕ → List ℕ → Result (Unit {0})
-storing_block = storing_after block_checks
+storing_block m before = asked (block_checks (raw_block m)) before tt (image (length m) (raw_block m))
 
+-- 5 to 7, then the same
 abbrev pub storing_links : List ℕ → List ℕ → Result (Unit {0})
-storing_links = storing_after link_checks
+storing_links m before = asked (link_checks (raw_block m)) before tt (image (length m) (raw_block m))

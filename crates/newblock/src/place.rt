@@ -193,12 +193,10 @@ pub fn resolve_by(block: &mut [u64], first: &mut [u64], second: &mut [u64])
     place_all(block, first, second);
 }
 
-// The same with no hints.
+// The same without tables.
 pub fn resolve(block: &mut [u64])
     requires { InSerials block.old }
     ensures { block.new ≡ image (length block.old) (raw_block block.old) }
 {
-    let mut first = [0u64; 0];
-    let mut second = [0u64; 0];
-    resolve_by(block, &mut first, &mut second);
+    place_all(block, &[], &[]);
 }
