@@ -48,7 +48,8 @@ pub const CALLS: [Call; 16] = [
     Call::ViewerRedirect,
 ];
 
-pub const CALLS_ON_PAGES: [Call; 4] = [Call::WritePages, Call::ReadPages, Call::ViewerWritePages, Call::ViewerReadPages];
+pub const CALLS_ON_PAGES: [Call; 4] =
+    [Call::WritePages, Call::ReadPages, Call::ViewerWritePages, Call::ViewerReadPages];
 
 /// All calls, in the order of the vector files.
 pub fn all_calls() -> Vec<Call> {

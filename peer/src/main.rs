@@ -1,7 +1,7 @@
 //! The peer's program: simulate, vectors, compare, list, basin, listings, rounds, levelling.
 
 use peer::basin;
-use peer::cases::all_calls;
+use peer::cases::{CALLS, CALLS_ON_PAGES};
 use peer::compare;
 use peer::lent::Peer;
 use peer::levelling;
@@ -128,8 +128,10 @@ fn run_simulation(seed: u64, count: usize) -> Result<(), String> {
 
 /// The plain version against the value version.
 fn run_comparison(seed: u64, count: usize) -> Result<(), String> {
-    for ((call, answer), times) in compare::compare(&Plain, &Peer, &all_calls(), seed, count)? {
-        println!("{call:18} {answer:2} {times}");
+    for (calls, count) in [(CALLS.as_slice(), count), (&CALLS_ON_PAGES, count / 4)] {
+        for ((call, answer), times) in compare::compare(&Plain, &Peer, calls, seed, count)? {
+            println!("{call:16} {answer:2} {times}");
+        }
     }
     Ok(())
 }

@@ -681,13 +681,16 @@ impl Played {
         Self { most, input: Vec::new(), counts }
     }
 
-    fn add(&mut self, call: Call, bytes: &[u8]) {
+    /// Adds a record where it fits; whether it does.
+    fn add(&mut self, call: Call, bytes: &[u8]) -> bool {
         // The byte of the call and the length.
-        if self.input.len() + 5 + bytes.len() <= self.most && has_room(call, bytes) {
+        let fits = self.input.len() + 5 + bytes.len() <= self.most && has_room(call, bytes);
+        if fits {
             self.input.push(call as u8);
             put_bytes(&mut self.input, bytes);
             *self.counts.entry(call).or_default().entry(u32_at(bytes, 0)).or_default() += 1;
         }
+        fits
     }
 
     fn answers(&self) -> String {
@@ -708,32 +711,38 @@ impl Played {
 fn gate_of<'a>(calls: &'a [(Call, Records)]) -> Gate {
     let mut played = Played::new(GATE_BYTES, calls);
     for (call, records) in calls {
-        records.drawn.iter().for_each(|bytes| played.add(*call, bytes));
+        for bytes in &records.drawn {
+            played.add(*call, bytes);
+        }
     }
     // Those about limits come last, first those that have to be there, short ones first: others are left out where they do not fit.
     for needed in [true, false] {
         let of = |(call, records): &'a (Call, Records)| records.limits(*call, needed).map(|bytes| (*call, bytes));
         let mut limits: Vec<(Call, &Vec<u8>)> = calls.iter().flat_map(of).collect();
         limits.sort_by_key(|(_, bytes)| bytes.len());
-        limits.into_iter().for_each(|(call, bytes)| played.add(call, bytes));
+        for (call, bytes) in limits {
+            played.add(call, bytes);
+        }
     }
     Gate { output: played.answers() + &played.found(), input: played.input }
 }
 
-/// Of calls on pages: each call's drawn cases, then those made by hand.
-fn pages_of(calls: &[(Call, Records)]) -> Gate {
+/// Of calls on pages: each call's drawn cases, then those made by hand. It is told how many of both do not fit.
+fn pages_of(calls: &[(Call, Records)]) -> (Gate, usize) {
     let mut played = Played::new(PAGES_BYTES, calls);
+    let mut left_out = 0;
     for (call, records) in calls {
-        records.drawn.iter().chain(&records.limits).for_each(|bytes| played.add(*call, bytes));
+        left_out += records.drawn.iter().chain(&records.limits).filter(|bytes| !played.add(*call, bytes)).count();
     }
-    Gate { output: played.found(), input: played.input }
+    (Gate { output: played.found(), input: played.input }, left_out)
 }
 
 pub fn gate(seed: u64, wanted: usize) -> Gate {
     gate_of(&CALLS.map(|call| (call, records(seed, call, wanted))))
 }
 
-pub fn pages_gate(seed: u64, wanted: usize) -> Gate {
+/// That of calls on pages, and how many records do not fit into it.
+pub fn pages_gate(seed: u64, wanted: usize) -> (Gate, usize) {
     pages_of(&CALLS_ON_PAGES.map(|call| (call, records(seed, call, wanted))))
 }
 
@@ -750,7 +759,7 @@ pub fn write(seed: u64, wanted: usize, folder: &Path) -> std::io::Result<usize> 
         played.push((call, records));
     }
     let (calls, on_pages) = played.split_at(CALLS.len());
-    for (name, gate) in [("gate", gate_of(calls)), ("pages", pages_of(on_pages))] {
+    for (name, gate) in [("gate", gate_of(calls)), ("pages", pages_of(on_pages).0)] {
         std::fs::write(folder.join(format!("{name}.bin")), gate.input)?;
         std::fs::write(folder.join(format!("{name}.txt")), gate.output)?;
     }

@@ -886,7 +886,7 @@ fn full_is_3(site: Site, of: Site, pages: &[u8], block: &mut [u64]) -> u32 {
 
 /// The gate's records of pages, the short ones first: the case, its answer, what is lent afterwards.
 fn records() -> Vec<(Case, u32, Case)> {
-    let gate = vectors::pages_gate(1, 60);
+    let (gate, _) = vectors::pages_gate(1, 60);
     let calls = all_calls();
     let mut rest = Reader { bytes: &gate.input };
     let mut found = Vec::new();

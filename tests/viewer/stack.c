@@ -363,10 +363,13 @@ int main(void) {
     }
     stack = memory + PAGE;
     for (enum faces faces = FREE; faces <= MIXED; faces++)
-        files(faces), wall(faces), departures(faces), arrivals(faces);
+        files(faces), departures(faces), arrivals(faces);
     departures_refused();
     updates();
     look();
+    /* Last, since all draw from one row of numbers. */
+    for (enum faces faces = FREE; faces <= MIXED; faces++)
+        wall(faces);
     for (enum call call = EMPTY; call < CALLS; call++) {
         printf("%-18s %6zu bytes of stack at most, %lu calls, answers", names[call], touched[call].most, touched[call].calls);
         for (int no = 0; no < ANSWERS; no++)

@@ -1,7 +1,7 @@
 //! The archive against the second implementation on drawn cases: answer and every lent byte. Prints how often each call gave each answer.
 
 use compare::archive::Archive;
-use peer::cases::all_calls;
+use peer::cases::{all_calls, CALLS, CALLS_ON_PAGES};
 use peer::compare::{self as cores, Table};
 use peer::lent::Peer;
 use std::process::ExitCode;
@@ -12,13 +12,20 @@ fn main() -> ExitCode {
         eprintln!("compare SEED N");
         return ExitCode::FAILURE;
     };
-    match cores::compare(&Archive, &Peer, &all_calls(), seed, count as usize) {
+    match compare(seed, count as usize) {
         Ok(table) => report(&table),
         Err(what) => {
             eprintln!("{what}");
             ExitCode::FAILURE
         }
     }
+}
+
+/// So many cases of all calls but those on pages, and a quarter as many of these.
+fn compare(seed: u64, count: usize) -> Result<Table, String> {
+    let mut table = cores::compare(&Archive, &Peer, &CALLS, seed, count)?;
+    table.extend(cores::compare(&Archive, &Peer, &CALLS_ON_PAGES, seed, count / 4)?);
+    Ok(table)
 }
 
 /// A line for each call: its answers and how often each came. An answer that never came is a failure.
