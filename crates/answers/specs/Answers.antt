@@ -1,14 +1,10 @@
 -- Answers: the paper's number and values for each case of an answer, and what a call gives. Assumes nothing.
-use Rattle.std.specs.Prelude.{◌≡◌, List, [], ℕ}
+use Rattle.std.specs.Prelude.{◌≡◌, List, [], ℕ, Err, Ok, Result}
 use Rattle.model.specs.Lists.{Check}
 use Rattle.model.specs.Balance as balance
 use Rattle.model.specs.Calls as calls
 use Rattle.answers.specs.declared.Refusal.{Refusal}
 use Rattle.answers.specs.declared.Refusal.TheVariants as refusal
-use Rattle.answers.specs.declared.Answer.{Answer}
-use Rattle.answers.specs.declared.Answer.TheVariants as answer
-use Rattle.answers.specs.declared.Written.{Written}
-use Rattle.answers.specs.declared.Written.TheVariants as written
 use Rattle.answers.specs.declared.NextMove.{NextMove}
 use Rattle.answers.specs.declared.NextMove.TheVariants as move
 
@@ -45,16 +41,20 @@ question refusal.OracleWrong = 28
 question refusal.VolumeForViewer = 29
 question refusal.PagesTooLong = 30
 
+-- what a call answers: a value, or the question that it was refused by
+abbrev pub OrRefused : Type 0 → Type 0
+OrRefused A = Result A Refusal
+
 -- THE MODEL'S ANSWER of each case
 -- of a call that adds nothing
-abbrev pub answer_of : Answer → calls.Answer (Unit {0})
-answer_of answer.Served = calls.served tt
-answer_of (answer.Refused r) = calls.refused (question r)
+abbrev pub answer_of : OrRefused (Unit {0}) → calls.Answer (Unit {0})
+answer_of (Ok tt) = calls.served tt
+answer_of (Err r) = calls.refused (question r)
 
 -- of a call that adds the bytes written
-abbrev pub written_of : Written → calls.Answer ℕ
-written_of (written.Served n) = calls.served n
-written_of (written.Refused r) = calls.refused (question r)
+abbrev pub written_of : OrRefused ℕ → calls.Answer ℕ
+written_of (Ok n) = calls.served n
+written_of (Err r) = calls.refused (question r)
 
 -- of next move: a donor, a recipient and a serial
 abbrev pub move_of : NextMove → calls.Answer balance.NextMove

@@ -5,10 +5,10 @@ ghost use Rattle.std.specs.Prelude.{◌≡◌, get_or};
 ghost use Rattle.model.specs.Calls.{number_of, values_of, written_values, move_values};
 ghost use Rattle.answers.specs.Answers.{question, answer_of, written_of, move_of};
 
-// One case for each question, 1 to 30, in their order.
+// One case for each question, by its number, 1 to 30.
 #[derive(Clone, Copy)]
 pub enum Refusal {
-    MemorySize,
+    MemorySize = 1,
     NotAnImage,
     FileLayout,
     CoordinateNotFinite,
@@ -41,18 +41,10 @@ pub enum Refusal {
 }
 
 // Of a call that adds nothing to its answer.
-#[derive(Clone, Copy)]
-pub enum Answer {
-    Served,
-    Refused(Refusal),
-}
+pub type Answer = Result<(), Refusal>;
 
 // Of a call that adds the bytes written.
-#[derive(Clone, Copy)]
-pub enum Written {
-    Served(usize),
-    Refused(Refusal),
-}
+pub type Written = Result<usize, Refusal>;
 
 // Of next move: donor, recipient and serial of a move.
 #[derive(Clone, Copy)]
@@ -66,46 +58,15 @@ pub enum NextMove {
 pub fn refusal_number(r: Refusal) -> u32
     ensures { result ≡ question r }
 {
-    match r {
-        Refusal::MemorySize => 1,
-        Refusal::NotAnImage => 2,
-        Refusal::FileLayout => 3,
-        Refusal::CoordinateNotFinite => 4,
-        Refusal::LinksWrong => 5,
-        Refusal::ThirdLinksWrong => 6,
-        Refusal::LabelsWrong => 7,
-        Refusal::PointsDisagree => 8,
-        Refusal::Destination => 9,
-        Refusal::SerialNotHeld => 10,
-        Refusal::VolumeTooLarge => 11,
-        Refusal::SewnWithin => 12,
-        Refusal::VertexPairs => 13,
-        Refusal::CounterFull => 14,
-        Refusal::OutputTooShort => 15,
-        Refusal::MessageLayout => 16,
-        Refusal::NotForHere => 17,
-        Refusal::SerialsNotNew => 18,
-        Refusal::VolumeWrong => 19,
-        Refusal::PartsWrong => 20,
-        Refusal::BlockFull => 21,
-        Refusal::UpdateWrong => 22,
-        Refusal::BlockNumbers => 23,
-        Refusal::SerialsRepeated => 24,
-        Refusal::LabelsUnpaired => 25,
-        Refusal::PointsAcross => 26,
-        Refusal::MakersWrong => 27,
-        Refusal::OracleWrong => 28,
-        Refusal::VolumeForViewer => 29,
-        Refusal::PagesTooLong => 30,
-    }
+    r as u32
 }
 
 pub fn answer_number(a: Answer) -> u32
     ensures { result ≡ number_of (answer_of a) }
 {
     match a {
-        Answer::Served => 0,
-        Answer::Refused(r) => refusal_number(r),
+        Ok(()) => 0,
+        Err(r) => refusal_number(r),
     }
 }
 
@@ -113,8 +74,8 @@ pub fn written_number(w: Written) -> u32
     ensures { result ≡ number_of (written_of w) }
 {
     match w {
-        Written::Served(_) => 0,
-        Written::Refused(r) => refusal_number(r),
+        Ok(_) => 0,
+        Err(r) => refusal_number(r),
     }
 }
 
@@ -123,8 +84,8 @@ pub fn written_bytes(w: Written) -> usize
     ensures { result ≡ get_or (values_of written_values (written_of w)) 0 0 }
 {
     match w {
-        Written::Served(n) => n,
-        Written::Refused(_) => 0,
+        Ok(n) => n,
+        Err(_) => 0,
     }
 }
 

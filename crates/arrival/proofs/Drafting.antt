@@ -1,4 +1,6 @@
 -- The draft record by record. Assumes nothing.
+use Rattle.std.proofs.lemmas.Option.{none-some, some_pair_parts}
+use Rattle.std.specs.Prelude.{None, Some}
 use mathlib.Core.Path.{◌≡◌, refl, sym, ◌∙◌}
 use mathlib.Core.List.{List}
 use mathlib.Core.Logic.{⊎_elim}
@@ -16,7 +18,6 @@ use Rattle.memory.specs.declared.point.Point.{Point}
 use Rattle.memory.proofs.Points.{point_finite, point_patterns}
 use Rattle.model.specs.Layouts.{coordinate}
 use Rattle.groups.specs.Slices.{read_at}
-use Rattle.groups.specs.declared.Read.TheVariants.{Value, Bad}
 use Rattle.inbox.specs.Inbox.{word_in}
 use Rattle.ranking.specs.Ranks.{value_at, index_at}
 use Rattle.inbox.proofs.Points.{word_took}
@@ -82,20 +83,17 @@ drafting_all {f} {k} {m} {p} w h g = rw g (record {
 })
 
 -- A WORD OF A POINT
-word_read : (s : List ℕ) (at : ℕ) → at + 8 ≤ length s → read_at coordinate s at ≡ Value (word_in s at) (length s - length (drop (at + 8) s))
+word_read : (s : List ℕ) (at : ℕ) → at + 8 ≤ length s → read_at coordinate s at ≡ Some ((word_in s at), (length s - length (drop (at + 8) s)))
 unfolding read_at
 word_read s at h = rw (word_took s at h).value refl
 
-pub word_value : (s : List ℕ) (at : ℕ) → at + 8 ≤ length s → {w n : ℕ} → read_at coordinate s at ≡ Value w n → w ≡ word_in s at
+pub word_value : (s : List ℕ) (at : ℕ) → at + 8 ≤ length s → {w n : ℕ} → read_at coordinate s at ≡ Some (w, n) → w ≡ word_in s at
 word_value s at h {w} {n} e =
-    let q : Value (word_in s at) (length s - length (drop (at + 8) s)) ≡ Value w n = sym (word_read s at h) ∙ e in
-    cc
+    sym (some_pair_parts (word_in s at) w (length s - length (drop (at + 8) s)) n (sym (word_read s at h) ∙ e)).0
 
-pub word_there : (s : List ℕ) (at : ℕ) → at + 8 ≤ length s → read_at coordinate s at ≡ Bad → ⊥
+pub word_there : (s : List ℕ) (at : ℕ) → at + 8 ≤ length s → read_at coordinate s at ≡ None → ⊥
 word_there s at h e =
-    let q : Value (word_in s at) (length s - length (drop (at + 8) s)) ≡ Bad = sym (word_read s at h) ∙ e in
-    let z : ◌≡◌ {A = ℕ} 0 1 = cc in
-    omega arith
+    none-some ((word_in s at), (length s - length (drop (at + 8) s))) (sym e ∙ word_read s at h)
 
 -- the index of the dart at place p, by what is read of it
 pub index_fits : {v b z keys q s : List ℕ} {from k : ℕ} → Draftable v b z keys q s from k → {p i : ℕ} → p < k → i ≡ index_at keys p → i < k

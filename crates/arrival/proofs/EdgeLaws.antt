@@ -1,18 +1,19 @@
 -- A pair and its reverse are neighbours among the pairs in order: edges, by the numbers of their ends. Assumes nothing.
-use mathlib.Core.Path.{◌≡◌, refl, sym, ◌∙◌, ap}
+use mathlib.Core.Path.{◌≡◌, refl, sym, ◌∙◌, ap, subst}
 use mathlib.Core.Logic.{◌≢◌, ⊎_elim}
 use mathlib.Core.Bool.{Bool, true, false, true≢false}
 use mathlib.Core.List.{List}
-use Prim.Native.Nat.{ℕ, ◌+◌, ◌-◌, ◌*◌, ◌/◌, ◌≤◌, ◌<◌}
+use Prim.Native.Nat.{ℕ, ◌+◌, ◌-◌, ◌*◌, ◌/◌, ◌%◌, ◌≤◌, ◌<◌}
 use native.Mathlib.Nat.{eq-or-lt_of_le}
 use native.Mathlib.Omega.{arith}
+use lib.Dec.{eqb}
 use lib.ListN.{length, get_or, take, set, length-set}
 use lib.Seq.{get_or-take, get_or-set_same, get_or-set_other}
-use borrow.Author.Tests.{lt-ltb, le-ltb}
+use borrow.Author.Tests.{lt-ltb, le-ltb, eq-eqb, ne_eqb}
 use Rattle.laws.specs.Order.{Ascending}
 use Rattle.model.specs.Lists.{all, mem, distinct, tab}
 use Rattle.model.specs.Values.{message_darts}
-use Rattle.laws.proofs.Tests.{by_cases, lt_or_ge, same_truth}
+use Rattle.laws.proofs.Tests.{by_cases, eq_or_ne, lt_or_ge, same_truth}
 use Rattle.laws.proofs.Tables.{getD_tab, tab_all, all_tab, mem_place, mem_none, tab_apart, tab_distinct}
 use Rattle.ranking.specs.Ranks.{value_at, index_at, Ranked}
 use Rattle.arrival.specs.Sides.{next_index, pair_code, pair_at, reverse_at, edge_code, edge_at, Segments, VerticesSmall}
@@ -216,3 +217,13 @@ coupling_all {keys} {k} {q} {r} w h = record {
   yes = λ _ p l. let m = w.met p (omega (arith, l, h)) in (m.0, omega (arith, m.1, w.le), m.2, m.3, m.4);
   no = λ e. absurd (true≢false e);
 }
+
+pub coupled : {keys : List ℕ} {k : ℕ} {q : List ℕ} {r s : ℕ} → r ≡ s → Coupling keys k q r → Coupling keys k q s
+coupled {keys} {k} {q} {r} {s} e w = subst (λ (n : ℕ). Coupling keys k q n) e w
+
+-- all pairs are: a last key that stands alone has no other
+pub coupling_end : {keys : List ℕ} {k : ℕ} {q : List ℕ} (h : ℕ) → Ascending k (value_at keys) → Coupling keys k q (2 * h) → k / 2 ≤ h → Edged keys k q (eqb (k % 2) 0)
+coupling_end {keys} {k} {q} h up w d = ⊎_elim
+    (λ e. subst (λ (b : Bool). Edged keys k q b) (sym (eq-eqb (k % 2) 0 e)) (coupling_all w (omega (arith, d, e, w.le))))
+    (λ n. subst (λ (b : Bool). Edged keys k q b) (sym (ne_eqb (k % 2) 0 n)) (coupling_not up w (omega (arith, d, n, w.le)) (λ l. absurd (omega (arith, d, l)))))
+    (eq_or_ne (k % 2) 0)

@@ -1,4 +1,5 @@
 -- Question 18 by index. Assumes nothing.
+use Rattle.std.specs.Prelude.{None, Option, Some}
 use mathlib.Core.Path.{◌≡◌, refl, sym, ◌∙◌, ap, subst}
 use mathlib.Core.Bool.{Bool, true, false, true≢false, not, ◌&&◌}
 use mathlib.Core.List.{List}
@@ -21,13 +22,10 @@ use Rattle.laws.proofs.Tests.{lt_or_ge, and_left, and_right}
 use Rattle.laws.proofs.Tables.{length_tab, getD_tab, map_tab, all_tab}
 use Rattle.memory.specs.Lookup.{place_in}
 use Rattle.memory.specs.declared.record.Place.{Place}
-use Rattle.memory.specs.declared.lookup.Found.TheVariants.{At, Nothing}
 use Rattle.memory.proofs.Lookups.{held_at, held_nothing, place_found, place_none}
 use Rattle.inbox.specs.Inbox.{word_in, point_in, points_in}
 use Rattle.ranking.specs.Ranks.{Ranked}
 use Rattle.arrival.specs.Sides.{side_at}
-use Rattle.arrival.specs.declared.serials.Gap.{Gap}
-use Rattle.arrival.specs.declared.serials.Gap.TheVariants.{Below, NotNew}
 use Rattle.arrival.specs.Draft.{FiniteIn, is_new, GapSaid, GapTold, NewSerials, TransferTold}
 use Rattle.arrival.proofs.SideLaws.{sides_are}
 use Rattle.arrival.proofs.PairLaws.{all_index}
@@ -41,11 +39,11 @@ module _ (m : List ℕ) (x : ℕ) where
     positive : leb 1 x ≡ true
     positive = le-leb 1 x (omega (arith, some_serial))
 
-    pub found_held : {n : ℕ} → n ≡ get_or m 2 0 → Ascending n (column m 0) → {p : Place} → place_in (column m 0) n x ≡ At p → false ≡ (leb 1 x && not (held (block_in m).darts x))
-    found_held q a {p} e = rw (positive, held_at m x (subst (λ (k : ℕ). Ascending k (column m 0)) q a) (subst (λ (k : ℕ). place_in (column m 0) k x ≡ At p) q e)) refl
+    pub found_held : {n : ℕ} → n ≡ get_or m 2 0 → Ascending n (column m 0) → {p : Place} → place_in (column m 0) n x ≡ Some p → false ≡ (leb 1 x && not (held (block_in m).darts x))
+    found_held q a {p} e = rw (positive, held_at m x (subst (λ (k : ℕ). Ascending k (column m 0)) q a) (subst (λ (k : ℕ). place_in (column m 0) k x ≡ Some p) q e)) refl
 
-    pub nothing_held : {n : ℕ} → n ≡ get_or m 2 0 → place_in (column m 0) n x ≡ Nothing → true ≡ (leb 1 x && not (held (block_in m).darts x))
-    nothing_held q e = rw (positive, held_nothing m x (subst (λ (k : ℕ). place_in (column m 0) k x ≡ Nothing) q e)) refl
+    pub nothing_held : {n : ℕ} → n ≡ get_or m 2 0 → place_in (column m 0) n x ≡ None → true ≡ (leb 1 x && not (held (block_in m).darts x))
+    nothing_held q e = rw (positive, held_nothing m x (subst (λ (k : ℕ). place_in (column m 0) k x ≡ None) q e)) refl
 
 -- IN A GAP of serials that ascend
 module _ {n : ℕ} {s : ℕ → ℕ} (a : Ascending n s) where
@@ -60,22 +58,22 @@ module _ {n : ℕ} {s : ℕ → ℕ} (a : Ascending n s) where
 
 -- THE ANSWER OF A SEARCH: how many are below, or not new
 module _ (m : List ℕ) {x n : ℕ} where
-  pub gap_zero : x ≡ 0 → GapTold m n x NotNew
+  pub gap_zero : x ≡ 0 → GapTold m n x None
   gap_zero e = record { said = sym (zero_held m x e) }
 
   module _ (some_serial : x ≡ 0 → ⊥) (q : n ≡ get_or m 2 0) where
-    pub gap_held : Ascending n (column m 0) → {p : ℕ} → p < n → column m 0 p ≡ x → GapTold m n x NotNew
+    pub gap_held : Ascending n (column m 0) → {p : ℕ} → p < n → column m 0 p ≡ x → GapTold m n x None
     gap_held a {p} l e = record { said = sym (found_held m x some_serial q a (sym (place_found (column m 0) n x p a l e))) }
 
-    pub gap_new : ((p : ℕ) → p < n → column m 0 p ≡ x → ⊥) → {g : Place} → g.0 ≤ n → GapTold m n x (Below g)
+    pub gap_new : ((p : ℕ) → p < n → column m 0 p ≡ x → ⊥) → {g : Place} → g.0 ≤ n → GapTold m n x (Some g)
     gap_new never h = record { said = (sym (nothing_held m x some_serial q (sym (place_none (column m 0) n x never))), h) }
 
 -- what it tells
-module _ {m : List ℕ} {n x : ℕ} {r : Gap} (w : GapTold m n x r) where
-  pub told_old : r ≡ NotNew → is_new m x ≡ false
+module _ {m : List ℕ} {n x : ℕ} {r : Option Place} (w : GapTold m n x r) where
+  pub told_old : r ≡ None → is_new m x ≡ false
   told_old e = subst (GapSaid m n x) e w.said
 
-  pub told_new : {g : Place} → r ≡ Below g → (is_new m x ≡ true) × (g.0 ≤ n)
+  pub told_new : {g : Place} → r ≡ Some g → (is_new m x ≡ true) × (g.0 ≤ n)
   told_new e = subst (GapSaid m n x) e w.said
 
 -- THE POINTS, by their number

@@ -1,6 +1,6 @@
 -- The new darts of a transfer as a block's memory of their own, in ascending serial. Assumes nothing.
 -- v, b, z as in Sides; keys, ranks: the serials ranked; q: the index of each dart's opposite; the points stand in s from a place on.
-use Rattle.std.specs.Prelude.{◌≡◌, ◌≢◌, Bool, true, false, not, ◌&&◌, List, ℕ, ◌+◌, ◌*◌, ◌/◌, ◌≤◌, ◌<◌, leb, eqb, length, get_or, take}
+use Rattle.std.specs.Prelude.{◌≡◌, ◌≢◌, Bool, true, false, not, ◌&&◌, List, ℕ, ◌+◌, ◌*◌, ◌/◌, ◌≤◌, ◌<◌, leb, eqb, length, get_or, take, None, Option, Some}
 use Rattle.model.specs.Lists.{all, mem, distinct, tab}
 use Rattle.model.specs.Values.{Dart, finite, finite_bits, message_darts}
 use Rattle.model.specs.Cells.{held}
@@ -11,9 +11,8 @@ use Rattle.memory.specs.declared.record.Record.{Record}
 use Rattle.cells.specs.Places.{Numbered}
 use Rattle.inbox.specs.Inbox.{FacesIn, is_hollow, points_in, word_in}
 use Rattle.ranking.specs.Ranks.{value_at, index_at, Ranked}
-use Rattle.arrival.specs.declared.serials.Gap.{Gap}
-use Rattle.arrival.specs.declared.serials.Gap.TheVariants.{Below, NotNew}
 use Rattle.arrival.specs.Sides.{next_index, pair_at, reverse_at, ends_differ, Segments, VerticesSmall}
+use Rattle.memory.specs.declared.record.Place.{Place}
 
 -- whether the values of the first k keys, which ascend, are edges that differ in the last bit; then q has the index of each one's other
 pub record Edged (keys : List ℕ) (k : ℕ) (q : List ℕ) (r : Bool) : Type 0 where
@@ -100,11 +99,11 @@ pub record TransferTold (t : Transfer) (v x b z s : List ℕ) (from n k : ℕ) (
 abbrev pub is_new : List ℕ → ℕ → Bool
 is_new m x = leb 1 x && not (held (block_in m).darts x)
 
-abbrev pub GapSaid : List ℕ → ℕ → ℕ → Gap → Type 0
-GapSaid m n x (Below g) = (is_new m x ≡ true) × (g.0 ≤ n)
-GapSaid m n x NotNew = is_new m x ≡ false
+abbrev pub GapSaid : List ℕ → ℕ → ℕ → Option Place → Type 0
+GapSaid m n x (Some g) = (is_new m x ≡ true) × (g.0 ≤ n)
+GapSaid m n x None = is_new m x ≡ false
 
-pub record GapTold (m : List ℕ) (n x : ℕ) (r : Gap) : Type 0 where
+pub record GapTold (m : List ℕ) (n x : ℕ) (r : Option Place) : Type 0 where
   pub said : GapSaid m n x r
 
 -- whether points are finite and the first k serials are new to some darts; then they are ranked

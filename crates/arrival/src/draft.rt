@@ -19,7 +19,7 @@ pub fn word_at(message: &[u8], at: usize) -> u64
     requires { at + 8 ≤ length message.now }
     ensures { result ≡ word_in message.now at }
 {
-    let Read::Value(w, next) = reader::read_coordinate(message, at) else {
+    let Some((w, next)) = reader::read_coordinate(message, at) else {
         return 0;
     };
     w
@@ -108,8 +108,7 @@ pub fn put_draft(
     ensures { RecordsDrafted (draft_record vertex.now starts.now sizes.now keys.now ranks.now opposite.now message.now from) k draft.new }
 {
     // The records below p are put.
-    let mut p = 0;
-    while p < k {
+    for p in 0..k {
         let r = record_of(
             message,
             from,
@@ -123,7 +122,6 @@ pub fn put_draft(
             DraftPlace(p),
         );
         record::put_record(draft, Place(p), r);
-        p += 1;
     }
     set_count(draft, k);
 }

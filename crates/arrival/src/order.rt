@@ -34,12 +34,10 @@ pub fn ordered(serial: &[u64], starts: &[usize], k: usize) -> bool
     ensures { result ≡ all (order_at serial.now starts.now) (tab (λ i. i) k) }
 {
     // Those before i do.
-    let mut i = 0;
-    while i < k {
+    for i in 0..k {
         if !order_at(serial, starts, MessageIndex(i)) {
             return false;
         }
-        i += 1;
     }
     true
 }
@@ -52,13 +50,11 @@ pub fn vertices_fit(vertex: &[u64], k: usize, count: u64) -> bool
     if (k as u64) < count {
         return false;
     }
-    // Those before i have.
-    let mut i = 0;
-    while i < k {
-        if count <= vertex[i] {
+    // Those before v have.
+    for v in &vertex[..k] {
+        if count <= *v {
             return false;
         }
-        i += 1;
     }
     true
 }

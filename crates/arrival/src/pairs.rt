@@ -48,13 +48,11 @@ pub fn put_pairs(
 {
     // The pairs before i are put; `ok` says whether their ends differ.
     let mut ok = true;
-    let mut i = 0;
-    while i < k {
+    for i in 0..k {
         let next = next_index(starts, sizes, MessageIndex(i));
         let j = next.0;
         ok = ok & (vertex[i] != vertex[j]);
         pairs[i] = edge(vertex[i], vertex[j]);
-        i += 1;
     }
     ok
 }
@@ -65,22 +63,17 @@ fn edges(keys: &[u64], k: usize, opposite: &mut [usize]) -> bool
     requires by_index { (p s : ℕ) → p < k → s < k → index_at keys.now p ≡ index_at keys.now s → p ≡ s }
     ensures { Edged keys.now k opposite.new result }
 {
-    // The keys below r are.
-    let mut r = 0;
-    while r < k {
-        if r + 1 == k {
-            return false;
-        }
-        let a = keys[r];
-        let b = keys[r + 1];
+    // The first h pairs of keys are.
+    for h in 0..k / 2 {
+        let a = keys[2 * h];
+        let b = keys[2 * h + 1];
         if a / 1024 != b / 1024 {
             return false;
         }
         opposite[(a % ranking::INDICES) as usize] = (b % ranking::INDICES) as usize;
         opposite[(b % ranking::INDICES) as usize] = (a % ranking::INDICES) as usize;
-        r += 2;
     }
-    true
+    k % 2 == 0
 }
 
 // Whether every ordered vertex pair is there once, with different ends and with its reverse; then `opposite` has the index of each

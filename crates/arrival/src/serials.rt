@@ -29,12 +29,10 @@ fn points_finite(message: &[u8], from: usize, count: usize) -> bool
     ensures { result ≡ all finite (points_in message.now from count) }
 {
     // Those before j are.
-    let mut j = 0;
-    while j < count {
+    for j in 0..count {
         if !point_finite(message, from + 24 * j) {
             return false;
         }
-        j += 1;
     }
     true
 }
@@ -82,35 +80,28 @@ fn in_gap(block: &[u64], n: usize, gap: Place, serial: u64) -> bool
     true
 }
 
-// The place past those of a block's serials that are below one that is new, or that it is not: 0, or held.
-#[derive(Clone, Copy)]
-pub enum Gap {
-    Below(Place),
-    NotNew,
-}
-
-// The gap of a serial among the first n. `near`: a guess.
-fn gap_of(block: &[u64], n: usize, serial: u64, near: Place) -> Gap
+// The place past those of the first n serials that are below a new one; none where it is not new, but 0 or held. `near`: a guess.
+fn gap_of(block: &[u64], n: usize, serial: u64, near: Place) -> Option<Place>
     requires { (n ≡ get_or block.now 2 0) × (n ≤ room) × (words_for n ≤ length block.now) × Ascending n (column block.now 0) × ((p : ℕ) → p < n → column block.now 0 p < serial_bound) × (serial < serial_bound) × (near.0 ≤ n) }
     ensures { GapTold block.now n serial result }
 {
     if serial == 0 {
-        return Gap::NotNew;
+        return None;
     }
     // Serials that come one after the other are mostly in one gap.
     if in_gap(block, n, near, serial) {
-        return Gap::Below(near);
+        return Some(near);
     }
     let last = last_of(block, n, serial);
     let there = record::field(block, last, Record::SERIAL);
     if there == serial {
-        return Gap::NotNew;
+        return None;
     }
     if there < serial {
         let below = last.0 + 1;
-        return Gap::Below(Place(below));
+        return Some(Place(below));
     }
-    Gap::Below(last)
+    Some(last)
 }
 
 // Whether the first k are at least 1, and the block's n darts do not have them.
@@ -120,13 +111,11 @@ fn all_new(block: &[u64], n: usize, serial: &[u64], k: usize) -> bool
 {
     // Those before i are; `near` is the gap of the last one.
     let mut near = 0;
-    let mut i = 0;
-    while i < k {
-        let Gap::Below(gap) = gap_of(block, n, serial[i], Place(near)) else {
+    for i in 0..k {
+        let Some(gap) = gap_of(block, n, serial[i], Place(near)) else {
             return false;
         };
         near = gap.0;
-        i += 1;
     }
     true
 }

@@ -37,14 +37,12 @@ fn numbers_same(vertex: &[u64], ranks: &[usize], k: usize, numbers: &[usize]) ->
     ensures { result ≡ all (λ i. eqb (get_or vertex.now i 0) (get_or numbers.now (get_or ranks.now i 0) 0)) (tab (λ i. i) k) }
 {
     // Those before i have.
-    let mut i = 0;
-    while i < k {
+    for i in 0..k {
         let place = place::rank_at(ranks, MessageIndex(i));
         let p = place.0;
         if vertex[i] != numbers[p] as u64 {
             return false;
         }
-        i += 1;
     }
     true
 }

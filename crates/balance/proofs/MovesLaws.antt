@@ -1,4 +1,5 @@
 -- The moves by places are the model's: between two blocks, from a block, and of the whole mesh. Assumes nothing.
+use Rattle.std.specs.Prelude.{None, Option, Some}
 use mathlib.Core.Path.{◌≡◌, refl, sym, ap, ◌∙◌, subst}
 use mathlib.Core.Bool.{Bool, true, false, true≢false, cond, not, ◌&&◌}
 use mathlib.Core.List.{List, [], ◌∷◌, ◌++◌, map}
@@ -33,10 +34,6 @@ use Rattle.mesh.proofs.Parts.{mesh_tab}
 use Rattle.mesh.proofs.Among.{rack_sound}
 use Rattle.balance.specs.Moves.{can_leave, fits, leaves_at, UntriedIn, going, candidate_of, at}
 use Rattle.balance.specs.Moves.{SoundParts, mesh_in, count_at, picked_count, CellsCounted, Least, left_for, moves_between, moves_from, all_moves, move_found}
-use Rattle.balance.specs.declared.Found.{Found}
-use Rattle.balance.specs.declared.Found.TheVariants as found
-use Rattle.balance.specs.declared.leaving.Candidate.{Candidate}
-use Rattle.balance.specs.declared.leaving.Candidate.TheVariants.{Volume, Nothing}
 use Rattle.balance.proofs.Strikes.{leaves_any, untried_more, fits_same}
 use Rattle.balance.proofs.Searches.{joined, all_joined, none_from, Searching, searching_start, searching_skip, searching_none, search_found, search_end}
 use Rattle.balance.proofs.SurplusLaws.{counts_are}
@@ -185,7 +182,7 @@ module _ (viewers : ℕ) (mesh : List ℕ) (d r : ℕ) (from there : header.Limi
   pub left_some : {most x : ℕ} → most ≡ min from.volume there.volume → x ≡ min most (there.block - get_or mesh (r * words + 2) 0) → x ≡ left_for viewers mesh d r
   left_some p q = q ∙ ap (λ (m : ℕ). min m (there.block - get_or mesh (r * words + 2) 0)) p ∙ of_both
 
-pub between_there : (s : List ℕ) {l m s' : List ℕ} {r : Candidate} {a b : ℕ} → l ≡ m → a ≡ b → r ≡ candidate_of (going (at s) l a) → UntriedIn (at s) l s'
+pub between_there : (s : List ℕ) {l m s' : List ℕ} {r : Option ℕ} {a b : ℕ} → l ≡ m → a ≡ b → r ≡ candidate_of (going (at s) l a) → UntriedIn (at s) l s'
     → (r ≡ candidate_of (going (at s) m b)) × UntriedIn (at s) m s'
 between_there s {l} {m} {s'} {r} {a} {b} e f g u =
     (g ∙ ap (λ (x : List ℕ). candidate_of (going (at s) x a)) e ∙ ap (λ (x : ℕ). candidate_of (going (at s) m x)) f, subst (λ (x : List ℕ). UntriedIn (at s) x s') e u)
@@ -216,11 +213,11 @@ going_same {z} m {s} u left = ap (map (column m 0)) (keep_cong (fits (at s) (lea
     (λ p k. fits_same u left p (places_below (get_or m 2 0) p k)))
 
 -- what the first of them says of the list
-pub none_goes : (l : List ℕ) → Nothing ≡ candidate_of l → l ≡ []
+pub none_goes : (l : List ℕ) → None ≡ candidate_of l → l ≡ []
 none_goes [] e = refl
 none_goes (x ∷ l) e = let z : ◌≡◌ {A = ℕ} 0 1 = cc in absurd (omega arith)
 
-pub one_goes : (l : List ℕ) (s : ℕ) → Volume s ≡ candidate_of l → (rest : List ℕ) × (l ≡ s ∷ rest)
+pub one_goes : (l : List ℕ) (s : ℕ) → Some s ≡ candidate_of l → (rest : List ℕ) × (l ≡ s ∷ rest)
 one_goes [] s e = let z : ◌≡◌ {A = ℕ} 0 1 = cc in absurd (omega arith)
 one_goes (x ∷ l) s e = let same : s ≡ x = cc in (l, ap (λ (y : ℕ). y ∷ l) (sym same))
 
@@ -268,7 +265,7 @@ module _ {viewers : ℕ} {o : Oracle} {mesh : List ℕ} {d : ℕ} {s : List ℕ}
   pub giving_skip : gives_to o mesh d r ≡ false → Giving viewers o mesh d s (r + 1)
   giving_skip e = record { untried = w.untried; search = searching_skip w.search h e }
 
-  module _ (sp : SoundParts mesh) (hd : d < block_count mesh) (apart : r ≡ d → ⊥) {c : Candidate}
+  module _ (sp : SoundParts mesh) (hd : d < block_count mesh) (apart : r ≡ d → ⊥) {c : Option ℕ}
       (e : c ≡ candidate_of (going (at s) (part mesh d) (left_for viewers mesh d r))) where
     abbrev there : List ℕ
     there = going (picked_size o (part mesh d)) (part mesh d) (left_for viewers mesh d r)
@@ -276,21 +273,21 @@ module _ {viewers : ℕ} {o : Oracle} {mesh : List ℕ} {d : ℕ} {s : List ℕ}
     first_is : c ≡ candidate_of there
     first_is = e ∙ ap candidate_of (going_same (part mesh d) w.untried (left_for viewers mesh d r))
 
-    pub giving_none : c ≡ Nothing → {s' : List ℕ} → UntriedIn (at s) (part mesh d) s' → Giving viewers o mesh d s' (r + 1)
+    pub giving_none : c ≡ None → {s' : List ℕ} → UntriedIn (at s) (part mesh d) s' → Giving viewers o mesh d s' (r + 1)
     giving_none q u = record {
       untried = untried_more w.untried u;
       search = searching_none w.search h (between_is viewers o mesh sp d r hd h apart
           ∙ ap (map (λ x. record { donor = d; recipient = r; serial = x })) (none_goes there (sym q ∙ first_is)));
     }
 
-    pub giving_found : {serial : ℕ} → c ≡ Volume serial → gives_to o mesh d r ≡ true → move_found d (found.Move r serial) ≡ first_or blocked (moves_from viewers o mesh d)
+    pub giving_found : {serial : ℕ} → c ≡ Some serial → gives_to o mesh d r ≡ true → move_found d (Some (r, serial)) ≡ first_or blocked (moves_from viewers o mesh d)
     giving_found {serial} q b =
         let g = one_goes there serial (sym q ∙ first_is) in
         let f = search_found w.search h b (record { donor = d; recipient = r; serial = serial }) (map (λ x. record { donor = d; recipient = r; serial = x }) g.0)
         (between_is viewers o mesh sp d r hd h apart ∙ ap (map (λ x. record { donor = d; recipient = r; serial = x })) g.1) in
         sym (ap (first_or blocked) (from_is o mesh viewers d ∙ f.1))
 
-pub giving_end : {viewers : ℕ} {o : Oracle} {mesh : List ℕ} {d : ℕ} {s : List ℕ} {r : ℕ} → Giving viewers o mesh d s r → block_count mesh ≤ r → move_found d found.Nothing ≡ first_or blocked (moves_from viewers o mesh d)
+pub giving_end : {viewers : ℕ} {o : Oracle} {mesh : List ℕ} {d : ℕ} {s : List ℕ} {r : ℕ} → Giving viewers o mesh d s r → block_count mesh ≤ r → move_found d None ≡ first_or blocked (moves_from viewers o mesh d)
 giving_end {viewers} {o} {mesh} {d} w h = sym (ap (first_or blocked) (from_is o mesh viewers d ∙ search_end w.search h))
 
 -- THE NEXT MOVE, by the counts and the least of them
@@ -366,8 +363,8 @@ module _ (viewers : ℕ) (o : Oracle) (mesh : List ℕ) {cs : List ℕ} (C : Cel
   somebody_gives {r} e h = ap served (sym (next_is viewers o mesh ∙ ap (λ (b : Bool). first_or (cond b level blocked) (all_moves viewers o mesh)) (level_here false (not_level_if (sym e ∙ h)))))
 
   -- THE LOOP over donors
-  pub donor_found : {d to serial : ℕ} {w : Found} → Searching is_donor (moves_from viewers o mesh) k d → d < k → is_donor d ≡ true
-      → move_found d w ≡ first_or blocked (moves_from viewers o mesh d) → w ≡ found.Move to serial
+  pub donor_found : {d to serial : ℕ} {w : Option (ℕ × ℕ)} → Searching is_donor (moves_from viewers o mesh) k d → d < k → is_donor d ≡ true
+      → move_found d w ≡ first_or blocked (moves_from viewers o mesh d) → w ≡ Some (to, serial)
       → served (move (record { donor = d; recipient = to; serial = serial })) ≡ served (first_or blocked (all_moves viewers o mesh))
   donor_found {d} {to} {serial} s h a e q =
       let g = one_move (moves_from viewers o mesh d) (record { donor = d; recipient = to; serial = serial }) (sym (ap (move_found d) q) ∙ e) in
@@ -377,7 +374,7 @@ module _ (viewers : ℕ) (o : Oracle) (mesh : List ℕ) {cs : List ℕ} (C : Cel
   pub donor_end : {d : ℕ} → Searching is_donor (moves_from viewers o mesh) k d → k ≤ d → served blocked ≡ served (first_or blocked (all_moves viewers o mesh))
   donor_end s h = ap served (sym (ap (first_or blocked) (all_are ∙ search_end s h)))
 
-pub donor_none : (viewers : ℕ) (o : Oracle) (mesh : List ℕ) (d : ℕ) {f : Found} → move_found d f ≡ first_or blocked (moves_from viewers o mesh d) → f ≡ found.Nothing → moves_from viewers o mesh d ≡ []
+pub donor_none : (viewers : ℕ) (o : Oracle) (mesh : List ℕ) (d : ℕ) {f : Option (ℕ × ℕ)} → move_found d f ≡ first_or blocked (moves_from viewers o mesh d) → f ≡ None → moves_from viewers o mesh d ≡ []
 donor_none viewers o mesh d e q = no_move (moves_from viewers o mesh d) (sym (ap (move_found d) q) ∙ e)
 
 numbered_at : (g : ℕ → Block) (n i : ℕ) → numbered_from i (tab g n) ≡ true → (p : ℕ) → p < n → (g p).number ≡ i + p

@@ -1,5 +1,6 @@
 -- Volumes tried one by one: what may leave does not depend on the destination, and a volume that may not is struck off.
 -- Assumes nothing.
+use Rattle.std.specs.Prelude.{None, Some}
 use mathlib.Core.Path.{◌≡◌, refl, sym, ap, ◌∙◌}
 use mathlib.Core.Bool.{Bool, true, false, cond, ◌&&◌}
 use mathlib.Core.List.{List, [], ◌∷◌, map}
@@ -20,7 +21,6 @@ use Rattle.laws.proofs.Tests.{eq_or_ne, last_or_below}
 use Rattle.laws.proofs.Tables.{held_place}
 use Rattle.departure.specs.Asked.{volume_checks}
 use Rattle.balance.specs.Moves.{can_leave, fits, Untried, leaves_at, UntriedIn, going, candidate_of, at}
-use Rattle.balance.specs.declared.leaving.Candidate.TheVariants.{Volume, Nothing}
 
 -- WHAT THE QUESTIONS GAVE
 abbrev outcome : Bool → ℕ → Result (Unit {0})
@@ -165,13 +165,13 @@ module _ {z : ℕ → ℕ} {m : List ℕ} {left : ℕ} {s : List ℕ} {i : ℕ} 
   pub trying_strike : i < get_or m 2 0 → leaves_at m i ≡ false → Trying z m left (set s i 0) (i + 1)
   trying_strike h e = record { untried = untried_strike w.untried i h e; i_le = omega arith; before = passed h (skip_stays w.untried left i h e) }
 
-  pub tried_found : i < get_or m 2 0 → {x : ℕ} → x ≡ get_or s i 0 → (x ≡ 0 → ⊥) → x ≤ left → leaves_at m i ≡ true → Volume (column m 0 i) ≡ candidate_of (going z m left)
+  pub tried_found : i < get_or m 2 0 → {x : ℕ} → x ≡ get_or s i 0 → (x ≡ 0 → ⊥) → x ≤ left → leaves_at m i ≡ true → Some (column m 0 i) ≡ candidate_of (going z m left)
   unfolding going
   tried_found h v e l k =
       let r = kept_first (fits z (leaves_at m) left) (λ p. p) (get_or m 2 0) i h w.before (fits_here w.untried left i h v e l k) in
       sym (ap (λ (c : List ℕ). candidate_of (map (column m 0) c)) r.1)
 
-  pub tried_all : get_or m 2 0 ≤ i → Nothing ≡ candidate_of (going z m left)
+  pub tried_all : get_or m 2 0 ≤ i → None ≡ candidate_of (going z m left)
   unfolding going
   tried_all l = sym (ap (λ (c : List ℕ). candidate_of (map (column m 0) c)) (kept_none (fits z (leaves_at m) left) (λ p. p) (get_or m 2 0) (λ q k. w.before q (omega arith))))
 

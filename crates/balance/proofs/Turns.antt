@@ -5,6 +5,7 @@
 --   balanced, not_refused            with what stands beside the answer
 --   other_mesh, other_number         the same where no oracle has the number
 --   by_zero, by_one, by_two, by_other    the oracle by its number
+use Rattle.std.specs.Prelude.{Err, Ok, Result}
 use mathlib.Core.Path.{◌≡◌, refl, sym, ap, subst, ◌∙◌}
 use mathlib.Core.Bool.{true, false}
 use mathlib.Core.List.{List, [], ◌∷◌, map}
@@ -25,8 +26,6 @@ use Rattle.answers.specs.Answers.{question, answer_of, move_of, answered, Gives}
 use Rattle.answers.specs.declared.Refusal.{Refusal}
 use Rattle.answers.specs.declared.NextMove.{NextMove}
 use Rattle.answers.specs.declared.NextMove.TheVariants as next
-use Rattle.answers.specs.declared.Answer.{Answer}
-use Rattle.answers.specs.declared.Answer.TheVariants as answer
 use Rattle.mesh.proofs.Parts.{mesh_tab}
 use Rattle.balance.specs.Moves.{mesh_in}
 use Rattle.balance.specs.declared.nextmove.Balance.{Balance}
@@ -84,10 +83,10 @@ module _ (viewers : ℕ) (m s : List ℕ) where
   unfolding whole_mesh_checks mesh_checks
   mesh_numbered = refl
 
-  pub mesh_no : {a : Answer} {q : Refusal} → a ≡ answer.Refused q → answer_of a ≡ answered (whole_mesh_checks (limits_in viewers) m s) → refused (question q) ≡ answered (whole_mesh_checks (limits_in viewers) m s)
+  pub mesh_no : {a : Result (Unit {0}) Refusal} {q : Refusal} → a ≡ Err q → answer_of a ≡ answered (whole_mesh_checks (limits_in viewers) m s) → refused (question q) ≡ answered (whole_mesh_checks (limits_in viewers) m s)
   mesh_no e h = sym (ap answer_of e) ∙ h
 
-  pub mesh_yes : {a : Answer} → a ≡ answer.Served → answer_of a ≡ answered (whole_mesh_checks (limits_in viewers) m s) → served tt ≡ answered (whole_mesh_checks (limits_in viewers) m s)
+  pub mesh_yes : {a : Result (Unit {0}) Refusal} → a ≡ (Ok tt) → answer_of a ≡ answered (whole_mesh_checks (limits_in viewers) m s) → served tt ≡ answered (whole_mesh_checks (limits_in viewers) m s)
   mesh_yes e h = sym (ap answer_of e) ∙ h
 
   module _ (o : Oracle) where

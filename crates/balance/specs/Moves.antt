@@ -1,5 +1,5 @@
 -- The next move by places: which volumes may go, counts and surpluses of a mesh in memory, and the moves of one donor. Assumes nothing.
-use Rattle.std.specs.Prelude.{◌≡◌, Bool, true, false, cond, ◌&&◌, List, [], ◌∷◌, map, ◌⊎◌, ℕ, ◌-◌, ◌≤◌, ◌<◌, min, leb, ltb, eqb, length, get_or, drop, ℤ, pos}
+use Rattle.std.specs.Prelude.{◌≡◌, Bool, true, false, cond, ◌&&◌, List, [], ◌∷◌, map, ◌⊎◌, ℕ, ◌-◌, ◌≤◌, ◌<◌, min, leb, ltb, eqb, length, get_or, drop, ℤ, pos, None, Option, Some}
 use Rattle.std.proofs.Math.IntN.{sub_ℕ}
 use Rattle.model.specs.Lists.{keep, tab, concat_map, first_no}
 use Rattle.model.specs.Values.{Block, limits_in, message_darts}
@@ -9,10 +9,6 @@ use Rattle.model.specs.Departure.{departure_checks}
 use Rattle.model.specs.Balance.{Oracle, Move, NextMove, move, blocked, picked, counts, recipients, can_move}
 use Rattle.cells.specs.Places.{Clear}
 use Rattle.mesh.specs.Parts.{block_count, part}
-use Rattle.balance.specs.declared.Found.{Found}
-use Rattle.balance.specs.declared.Found.TheVariants as found
-use Rattle.balance.specs.declared.leaving.Candidate.{Candidate}
-use Rattle.balance.specs.declared.leaving.Candidate.TheVariants as candidate
 
 -- 10 to 14 of the volume of the dart with this serial: they do not depend on the destination
 unfoldable pub can_leave : List ℕ → ℕ → Bool
@@ -51,9 +47,9 @@ unfoldable pub going : (ℕ → ℕ) → List ℕ → ℕ → List ℕ
 going size m left = map (column m 0) (keep (fits size (leaves_at m) left) (tab (λ p. p) (get_or m 2 0)))
 
 -- the first of them
-abbrev pub candidate_of : List ℕ → Candidate
-candidate_of [] = candidate.Nothing
-candidate_of (s ∷ l) = candidate.Volume s
+abbrev pub candidate_of : List ℕ → Option ℕ
+candidate_of [] = None
+candidate_of (s ∷ l) = Some s
 
 -- a table as a function
 abbrev pub at : List ℕ → ℕ → ℕ
@@ -111,6 +107,6 @@ abbrev pub all_moves : ℕ → Oracle → List ℕ → List Move
 all_moves viewers o mesh = concat_map (moves_from viewers o mesh) (tab (λ b. b) (length (counts o (mesh_in mesh))))
 
 -- what was found of block d: a move, or none and so blocked
-abbrev pub move_found : ℕ → Found → NextMove
-move_found d (found.Move r s) = move (record { donor = d; recipient = r; serial = s })
-move_found d found.Nothing = blocked
+abbrev pub move_found : ℕ → Option (ℕ × ℕ) → NextMove
+move_found d (Some (r, s)) = move (record { donor = d; recipient = r; serial = s })
+move_found d None = blocked

@@ -3,17 +3,9 @@ ghost use Rattle.std.specs.Prelude.{◌≡◌, true, false, ◌≤◌, ◌<◌, 
 ghost use Rattle.model.specs.Image.{count_in, holds_block};
 ghost use Rattle.balance.specs.Moves.{Asking, leaves_at, UntriedIn, going, candidate_of, at};
 
-use departure::Leaving;
 use memory::header::{Header, Limits};
 use memory::record;
 use memory::record::{Place, Record};
-
-// A volume that may go, by its least serial.
-#[derive(Clone, Copy)]
-pub enum Candidate {
-    Volume(u64),
-    Nothing,
-}
 
 // Whether the volume of the dart at this place may go to another block: 11 to 14. 9 is a yes between two blocks of a mesh, and 10 at a place.
 // On a no `marks` and `seen` are clear again; what stands in the other arrays is written before it is read. So no asking clears more than its
@@ -46,8 +38,8 @@ fn may_leave(
         firsts,
         colours,
     ) {
-        Leaving::Volume(_) => true,
-        Leaving::Refused(_) => false,
+        Ok(_) => true,
+        Err(_) => false,
     }
 }
 
@@ -63,18 +55,15 @@ fn first_asked(
     numbers: &mut [usize],
     firsts: &mut [usize],
     colours: &mut [usize],
-) -> Candidate
+) -> Option<u64>
     requires block_value { (holds_block block.now ≡ true) × (count_in block.now ≤ length sizes.old) }
     requires asking { Asking (count_in block.now) marks.old order.old starts.old seen.old numbers.old firsts.old colours.old }
     ensures candidate { result ≡ candidate_of (going (at sizes.old) block.now left) }
     ensures untried { UntriedIn (at sizes.old) block.now sizes.new }
 {
     let n = block[Header::COUNT] as usize;
-    // None of the volumes that start before i may go.
-    let mut i = 0;
-    while i < n {
-        let p = i;
-        i += 1;
+    // None of the volumes that start before p may go.
+    for p in 0..n {
         let s = sizes[p];
         if s == 0 {
             continue;
@@ -94,16 +83,16 @@ fn first_asked(
             firsts,
             colours,
         ) {
-            return Candidate::Volume(serial);
+            return Some(serial);
         }
         sizes[p] = 0;
     }
-    Candidate::Nothing
+    None
 }
 
-// The first volume of at most `left` darts that may go. `sizes` has the size of each volume at its least place. One that may not go is
+// The first volume of at most `left` darts that may go, by its least serial. `sizes` has the size of each volume at its least place. One that may not go is
 // struck off.
-pub fn first_leaving(block: &[u64], left: usize, sizes: &mut [usize]) -> Candidate
+pub fn first_leaving(block: &[u64], left: usize, sizes: &mut [usize]) -> Option<u64>
     requires { (holds_block block.now ≡ true) × (count_in block.now ≤ length sizes.old) }
     ensures candidate { result ≡ candidate_of (going (at sizes.old) block.now left) }
     ensures untried { UntriedIn (at sizes.old) block.now sizes.new }

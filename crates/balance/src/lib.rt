@@ -19,7 +19,6 @@ ghost use Rattle.mesh.specs.Parts.{block_count, part};
 ghost use Rattle.balance.specs.Answer.{balance_told};
 ghost use Rattle.balance.specs.Moves.{SoundParts, CellsCounted, Least, UntriedIn, going, candidate_of, at, move_found, mesh_in, left_for, moves_from, all_moves};
 
-use crate::leaving::Candidate;
 use crate::nextmove::Balance;
 use answers::NextMove;
 use memory::header::{BLOCKS, Header, Limits};
@@ -48,8 +47,8 @@ fn left_for(mesh: &[u64], viewers: u32, d: usize, to: usize) -> usize
     sort::lesser(most, (there.block - count) as u64) as usize
 }
 
-// The first volume that may go from block d to block `to`.
-fn between(mesh: &[u64], viewers: u32, d: usize, to: usize, sizes: &mut [usize]) -> Candidate
+// The first volume that may go from block d to block `to`, by its least serial.
+fn between(mesh: &[u64], viewers: u32, d: usize, to: usize, sizes: &mut [usize]) -> Option<u64>
     requires { SoundParts mesh.now × (d < block_count mesh.now) × (to < block_count mesh.now) × (count_in (part mesh.now d) ≤ length sizes.old) }
     ensures candidate { result ≡ candidate_of (going (at sizes.old) (part mesh.now d) (left_for viewers mesh.now d to)) }
     ensures untried { UntriedIn (at sizes.old) (part mesh.now d) sizes.new }
@@ -58,14 +57,7 @@ fn between(mesh: &[u64], viewers: u32, d: usize, to: usize, sizes: &mut [usize])
     leaving::first_leaving(mesh::part_of(mesh, d), left, sizes)
 }
 
-// A move from a known block: the recipient, and the serial of the volume.
-#[derive(Clone, Copy)]
-enum Found {
-    Move(u32, u64),
-    Nothing,
-}
-
-// The first move from block d to a block that it may give to.
+// The first move from block d to a block that it may give to: the recipient, and the serial of the volume.
 fn from_donor(
     mesh: &[u64],
     viewers: u32,
@@ -73,7 +65,7 @@ fn from_donor(
     counts: [u32; BLOCKS],
     d: usize,
     sizes: &mut [usize],
-) -> Found
+) -> Option<(u32, u64)>
     requires sound_parts { SoundParts mesh.now × (d < block_count mesh.now) × (count_in (part mesh.now d) ≤ length sizes.old) }
     requires cells_counted { CellsCounted (oracle_of o) mesh.now counts }
     ensures { move_found d result ≡ first_or blocked (moves_from viewers (oracle_of o) mesh.now d) }
@@ -81,21 +73,18 @@ fn from_donor(
     sizes_at(mesh, d, o, sizes);
     let k = mesh.len() / Header::WORDS;
     let own = counts[d];
-    // No volume may go to a block before r.
-    let mut r = 0;
-    while r < k {
-        let to = r;
-        r += 1;
+    // No volume may go to a block before `to`.
+    for to in 0..k {
         let c = counts[to];
         if !surplus::gives(own, c) {
             continue;
         }
-        let Candidate::Volume(serial) = between(mesh, viewers, d, to, sizes) else {
+        let Some(serial) = between(mesh, viewers, d, to, sizes) else {
             continue;
         };
-        return Found::Move(to as u32, serial);
+        return Some((to as u32, serial));
     }
-    Found::Nothing
+    None
 }
 
 // The first move of all; a block that may give to none that has the least is no donor.
@@ -112,16 +101,13 @@ fn first_move(
     ensures { move_of result ≡ served (first_or blocked (all_moves viewers (oracle_of o) mesh.now)) }
 {
     let k = mesh.len() / Header::WORDS;
-    // No volume may leave a block before d.
-    let mut d = 0;
-    while d < k {
-        let from = d;
-        d += 1;
+    // No volume may leave a block before `from`.
+    for from in 0..k {
         let c = counts[from];
         if !surplus::gives(c, low) {
             continue;
         }
-        let Found::Move(to, serial) = from_donor(mesh, viewers, o, counts, from, sizes) else {
+        let Some((to, serial)) = from_donor(mesh, viewers, o, counts, from, sizes) else {
             continue;
         };
         return NextMove::Move(from as u32, to, serial);

@@ -47,8 +47,8 @@ pub fn next_move(mesh: &[u64], viewers: u32, o: Oracle, scratch: &mut [u64]) -> 
     ensures { GivesBalance (calls.next_move (limits_in viewers) mesh.now (oracle_of o) scratch.old) result scratch.new }
 {
     match checkmesh::mesh_asked(mesh, viewers, scratch) {
-        Answer::Refused(q) => refused(q),
-        Answer::Served => {
+        Err(q) => refused(q),
+        Ok(()) => {
             if !oracle::oracle_right(o) {
                 return refused(Refusal::OracleWrong);
             }
@@ -62,8 +62,8 @@ fn without_oracle(mesh: &[u64], viewers: u32, scratch: &mut [u64]) -> Balance
     ensures { GivesBalance (calls.next_move_of (limits_in viewers) mesh.now none scratch.old) result scratch.new }
 {
     match checkmesh::mesh_asked(mesh, viewers, scratch) {
-        Answer::Refused(q) => refused(q),
-        Answer::Served => refused(Refusal::OracleWrong),
+        Err(q) => refused(q),
+        Ok(()) => refused(Refusal::OracleWrong),
     }
 }
 

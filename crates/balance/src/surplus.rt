@@ -27,10 +27,8 @@ pub fn counts(mesh: &[u64], o: Oracle) -> [u32; BLOCKS]
     let k = mesh.len() / Header::WORDS;
     // The blocks before i are counted.
     let mut c = [0u32; BLOCKS];
-    let mut i = 0;
-    while i < k {
+    for i in 0..k {
         c[i] = count_part(mesh, i, o);
-        i += 1;
     }
     c
 }
@@ -40,12 +38,10 @@ pub fn total(c: [u32; BLOCKS], k: usize) -> u32
     requires { (k ≤ blocks) × ((i : ℕ) → i < k → get_or c i 0 ≤ room) }
     ensures { (result ≡ sum (tab (λ i. get_or c i 0) k)) × (result ≤ 65536) }
 {
-    // Those before i sum up to t.
+    // Those before x sum up to t.
     let mut t = 0;
-    let mut i = 0;
-    while i < k {
-        t += c[i];
-        i += 1;
+    for x in &c[..k] {
+        t += *x;
     }
     t
 }
@@ -65,10 +61,8 @@ pub fn less_mean(c: [u32; BLOCKS], k: usize, mean: u32) -> [i32; BLOCKS]
 {
     // Those before i are told.
     let mut s = [0i32; BLOCKS];
-    let mut i = 0;
-    while i < k {
+    for i in 0..k {
         s[i] = surplus_of(c[i], mean);
-        i += 1;
     }
     s
 }
@@ -88,14 +82,10 @@ pub fn least(c: [u32; BLOCKS], k: usize) -> u32
 {
     // The least before i.
     let mut low = c[0];
-    let mut i = 1;
-    while i < k {
-        let x = c[i];
-        i += 1;
-        if low <= x {
-            continue;
+    for i in 1..k {
+        if c[i] < low {
+            low = c[i];
         }
-        low = x;
     }
     low
 }
@@ -105,14 +95,11 @@ pub fn some_gives(c: [u32; BLOCKS], k: usize, low: u32) -> bool
     requires { (k ≤ blocks) × (low ≤ room) }
     ensures { result ≡ any (λ x. may_give x low) (tab (λ i. get_or c i 0) k) }
 {
-    // None before i may.
-    let mut i = 0;
-    while i < k {
-        let x = c[i];
-        if gives(x, low) {
+    // None before x may.
+    for x in &c[..k] {
+        if gives(*x, low) {
             return true;
         }
-        i += 1;
     }
     false
 }

@@ -10,11 +10,11 @@ use script::{line, show};
 
 // Question 2: 1 for a yes.
 fn image(block: &[u64]) {
-    if sound::is_sound(block) {
-        show::text(b"1\n");
-        return;
-    }
-    show::text(b"0\n");
+    show::text(if sound::is_sound(block) {
+        b"1\n"
+    } else {
+        b"0\n"
+    });
 }
 
 // An answer's number.
@@ -88,10 +88,8 @@ fn too_long(out: &mut [u8]) {
 
 // The sixteen surpluses, as words.
 fn surpluses(surplus: [i32; BLOCKS]) {
-    let mut i = 0;
-    while i < BLOCKS {
-        show::number(nextmove::signed_word(surplus[i]));
-        i += 1;
+    for x in surplus {
+        show::number(nextmove::signed_word(x));
     }
 }
 
@@ -129,55 +127,25 @@ fn next_move(line: &[u8], mesh: &[u64], points: &[u8]) {
     moved(move_by(line, mesh, points, &mut scratch));
 }
 
-// A call that takes bytes or gives them; what is none is said.
-fn call_with_bytes(line: &[u8], memory: &mut [u64], bytes: &mut [u8]) {
-    if line::is(line, b"read_file") {
-        read_file(memory, bytes);
-        return;
-    }
-    if line::is(line, b"save_file") {
-        save_file(memory, bytes);
-        return;
-    }
-    if line::is(line, b"send") {
-        send(line, memory, bytes);
-        return;
-    }
-    if line::is(line, b"redirect") {
-        redirect(memory, bytes);
-        return;
-    }
-    if line::is(line, b"next_move") {
-        next_move(line, memory, bytes);
-        return;
-    }
-    show::text(b"no command: ");
-    show::text(line);
-    show::newline();
-}
-
+// The call that the line names; what is none is said.
 fn call(line: &[u8], memory: &mut [u64], bytes: &mut [u8]) {
-    if line::is(line, b"image") {
-        image(memory);
-        return;
+    match line::command(line) {
+        b"image" => image(memory),
+        b"release" => release(line, memory),
+        b"list" => list(memory, bytes),
+        b"refused" => refused(line, bytes),
+        b"too_long" => too_long(bytes),
+        b"read_file" => read_file(memory, bytes),
+        b"save_file" => save_file(memory, bytes),
+        b"send" => send(line, memory, bytes),
+        b"redirect" => redirect(memory, bytes),
+        b"next_move" => next_move(line, memory, bytes),
+        _ => {
+            show::text(b"no command: ");
+            show::text(line);
+            show::newline();
+        }
     }
-    if line::is(line, b"release") {
-        release(line, memory);
-        return;
-    }
-    if line::is(line, b"list") {
-        list(memory, bytes);
-        return;
-    }
-    if line::is(line, b"refused") {
-        refused(line, bytes);
-        return;
-    }
-    if line::is(line, b"too_long") {
-        too_long(bytes);
-        return;
-    }
-    call_with_bytes(line, memory, bytes);
 }
 
 // A call on so many words and bytes as its line tells.
@@ -192,46 +160,19 @@ fn lend(line: &[u8], memory: &mut [u64], bytes: &mut [u8]) {
 }
 
 fn play(line: &[u8], memory: &mut [u64], bytes: &mut [u8]) {
-    if script::set(line, memory, bytes) {
-        return;
-    }
-    if script::tell(line, memory, bytes) {
+    if script::set(line, memory, bytes) || script::tell(line, memory, bytes) {
         return;
     }
     lend(line, memory, bytes);
 }
 
-// The line from a place up to another.
-fn play_part(text: &[u8], from: usize, end: usize, memory: &mut [u64], bytes: &mut [u8]) {
-    if from <= end {
-        if end <= text.len() {
-            play(&text[from..end], memory, bytes);
-        }
-    }
-}
-
-// Plays line after line.
+// Plays line after line, each ended by a line feed.
 fn run(text: &[u8], memory: &mut [u64], bytes: &mut [u8]) {
-    let mut at = 0;
-    let mut lines: usize = 0;
-    // The next line starts at `at`; before it there are `lines` others.
-    while lines < 100000 {
-        let end = line::end(text, at);
-        if text.len() <= end {
-            return;
+    for whole in text.split_inclusive(|b| *b == b'\n').take(100000) {
+        if let Some(line) = whole.strip_suffix(b"\n") {
+            play(line, memory, bytes);
         }
-        play_part(text, at, end, memory, bytes);
-        at = end + 1;
-        lines += 1;
     }
-}
-
-fn run_first(text: &[u8], n: usize, memory: &mut [u64], bytes: &mut [u8]) {
-    if n < text.len() {
-        run(&text[0..n], memory, bytes);
-        return;
-    }
-    show::text(b"the script is too long\n");
 }
 
 fn main() {
@@ -239,5 +180,9 @@ fn main() {
     let mut memory = [0u64; 131104];
     let mut bytes = [0u8; 262144];
     let n = io::read_full(0, &mut text);
-    run_first(&text, n, &mut memory, &mut bytes);
+    if n < text.len() {
+        run(&text[..n], &mut memory, &mut bytes);
+    } else {
+        show::text(b"the script is too long\n");
+    }
 }

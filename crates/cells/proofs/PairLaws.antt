@@ -7,7 +7,7 @@ use mathlib.Core.List.{List, [], ◌∷◌, ◌++◌, map}
 use Prim.Native.Nat.{ℕ, zero, suc, ◌+◌, ◌-◌, ◌≤◌, ◌<◌}
 use native.Mathlib.Omega.{arith}
 use lib.Dec.{eqb}
-use lib.ListN.{length, get_or, set, replicate, length-set}
+use lib.ListN.{length, get_or, set, length-set}
 use lib.Seq.{get_or-set_same, get_or-set_other}
 use borrow.Author.Tests.{eq-eqb, ne_eqb, eqb-true, eqb-false, not-true}
 use Rattle.model.specs.Lists.{all, any, mem, distinct, tab}
@@ -17,9 +17,8 @@ use Rattle.laws.proofs.Tests.{by_cases, and_intro, and_left, and_right, not_equa
 use Rattle.laws.proofs.Members.{In, in_here, in_there, in_eq, in_cons, map_append, distinct_append, distinct_left, distinct_apart, distinct_not}
 use Rattle.laws.proofs.Orbits.{iter, path, in_path}
 use Rattle.laws.proofs.Tables.{tab_all, all_tab}
-use Rattle.laws.proofs.Lists.{getD_zeros}
 use Rattle.cells.specs.Places.{Within, Coloured, ends_of, ends_once}
-use Rattle.cells.proofs.Walks.{eq_or_ne, last_or_below}
+use Rattle.cells.proofs.Walks.{eq_or_ne}
 use Rattle.cells.proofs.Paths.{Round, Going, path_next, going_end, mem_append}
 
 -- EACH PAIR ONCE: a dart x leads from key x to key (nx x)
@@ -198,10 +197,3 @@ unfolding ends_once
 ends_not nx op numbers firsts count a h e = by_cases (all (λ a. distinct (a ∷ ends_of nx op numbers (get_or firsts a 0))) (tab (λ a. a) count))
     (λ t. absurd (true≢false (sym (all_tab (λ a. distinct (a ∷ ends_of nx op numbers (get_or firsts a 0))) (λ a. a) count t a h) ∙ e)))
     (λ t. sym t)
-
--- what holds of each vertex before a, and of a
-pub true_more : (t : ℕ → Bool) (a : ℕ) → ((k : ℕ) → k < a → t k ≡ true) → t a ≡ true → (k : ℕ) → k < a + 1 → t k ≡ true
-true_more t a h e k l = last_or_below l (λ w. rw w e) (h k)
-
-pub clear_colours : (m : ℕ) (colours : List ℕ) → colours ≡ replicate m 0 → (b : ℕ) → get_or colours b 0 ≤ 0
-clear_colours m colours e b = rw e (omega (arith, getD_zeros m b))

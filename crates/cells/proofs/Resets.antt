@@ -1,24 +1,19 @@
 -- Tables made ready again at the places of a list: assigning by a list, marks taken away, the least of a list. Assumes nothing.
-use mathlib.Core.Path.{◌≡◌, refl, sym, ◌∙◌, ap, subst}
+use mathlib.Core.Path.{◌≡◌, refl, sym, ◌∙◌, ap}
 use mathlib.Core.Bool.{Bool, true≢false, cond}
 use mathlib.Core.List.{List, [], ◌∷◌, ◌++◌}
 use Prim.Native.Nat.{ℕ, ◌+◌, ◌-◌, ◌≤◌, ◌<◌, min}
 use native.Mathlib.Omega.{arith}
-use lib.ListN.{length, get_or, replicate, set, take, drop, length-replicate}
+use lib.ListN.{length, get_or, replicate, take, drop, length-replicate}
 use lib.Seq.{length-take-le, get_or-take}
 use Rattle.model.specs.Lists.{least, mem}
 use Rattle.laws.proofs.Tests.{by_cases}
 use Rattle.laws.proofs.Lists.{getD_zeros, take_more}
 use Rattle.laws.proofs.Members.{In, in_getD, least_in, least_below, least_more}
 use Rattle.cells.specs.Places.{Clear, Listed, Marked, Assigned, bit, marked}
-use Rattle.cells.proofs.Paths.{assign_more}
 use Rattle.cells.proofs.FaceLaws.{in_marked, marked_in}
 
 -- PAINTED BY A LIST: one place more
-pub assign_listed : (order : List ℕ) (i : ℕ) {c : ℕ} {t t' : List ℕ} → Assigned c (take i order) t t' → i < length order
-    → get_or order i 0 < length t → Assigned c (take (i + 1) order) t (set t' (get_or order i 0) c)
-assign_listed order i w h l = rw (take_more order i h) (assign_more w l)
-
 -- what is marked is in the volume
 pub marks_in : {v marks : List ℕ} → Marked v marks → (p : ℕ) → get_or marks p 0 ≡ 1 → In p v
 marks_in {v} m p e = by_cases (mem p v) (λ i. i) (λ i. absurd (omega (arith, e, m.mark p ∙ ap bit i)))
@@ -66,9 +61,6 @@ module _ (order : List ℕ) (i : ℕ) {low : ℕ} (w : Lowest order i low) (h : 
   pub higher_next : {p : ℕ} → p ≡ get_or order i 0 → low ≤ p → Lowest order (i + 1) low
   higher_next e le = record { some = omega arith; low_is = let m : min low (get_or order i 0) ≡ low = omega arith in sym (next_least ∙ m) }
 
-pub lowest_all : (order : List ℕ) (i count : ℕ) {low : ℕ} → Lowest order i low → i ≤ count → count ≤ i → low ≡ least (take count order)
-lowest_all order i count w a b = let e : i ≡ count = omega arith in w.low_is ∙ ap (λ (k : ℕ). least (take k order)) e
-
 -- no mark stands below it, where the list has every marked place
 pub none_below : (marks : List ℕ) {n t : ℕ} {order : List ℕ} → Listed n (marked n marks) order t → least (take t order) ≤ n → (q : ℕ) → q < least (take t order) → get_or marks q 0 ≡ 1 → ⊥
 none_below marks {n} {t} {order} l low q h one = omega (arith, least_below (take t order) q (l.has q (in_marked n marks q (omega arith) one)))
@@ -88,10 +80,6 @@ least_small {n} {t} {v} {order} l h = by_first (take t order) refl
 
 pub listed_some : {n t : ℕ} {v order : List ℕ} (p : ℕ) → Listed n v order t → In p v → 0 < t
 listed_some {n} {t} {v} {order} p l i = let r = in_getD (take t order) p (l.has p i) in omega (arith, r.1, length-take-le t order (omega (arith, l.few, l.size)))
-
--- all of the list is assigned
-pub assigned_all : (order : List ℕ) (i count : ℕ) {c : ℕ} {t t' : List ℕ} → i ≤ count → count ≤ i → Assigned c (take i order) t t' → Assigned c (take count order) t t'
-assigned_all order i count {c} {t} {t'} a b w = let e : i ≡ count = omega arith in subst (λ (k : ℕ). Assigned c (take k order) t t') e w
 
 -- what is assigned has the value
 pub assigned_in : {c : ℕ} {l t t' : List ℕ} → Assigned c l t t' → (q : ℕ) → In q l → get_or t' q 0 ≡ c

@@ -2,7 +2,7 @@
 use mathlib.Core.Path.{◌≡◌, refl, sym, ◌∙◌, ap}
 use mathlib.Core.Bool.{Bool, true, false, true≢false, not, ◌&&◌}
 use mathlib.Core.List.{List, [], ◌∷◌}
-use Prim.Native.Nat.{ℕ, zero, suc, ◌+◌, ◌%◌, ◌≤◌, ◌<◌}
+use Prim.Native.Nat.{ℕ, zero, suc, ◌%◌, ◌≤◌, ◌<◌}
 use native.Mathlib.Omega.{arith}
 use lib.Dec.{eqb}
 use lib.ListN.{length, get_or, take}
@@ -14,7 +14,6 @@ use Rattle.model.specs.Departure.{is_sewn_into, is_sewn_out_of}
 use Rattle.laws.proofs.Tests.{by_cases}
 use Rattle.laws.proofs.Members.{In, in_here, in_there, or_left, or_right, any_in, all_map, all_cong, mem_keep, keep_cong}
 use Rattle.cells.specs.Places.{Marked, bit, marked, places_in, sewn_in, sewn_out, volume_of}
-use Rattle.cells.proofs.Walks.{last_or_below}
 use Rattle.cells.proofs.Reached.{places, in_places, places_in_in}
 use Rattle.cells.proofs.Sited.{Sited, darts_in}
 use Rattle.cells.proofs.Serials.{mem_map, serials_apart, volume_serials}
@@ -38,10 +37,6 @@ pub none_first : (q : ℕ → Bool) (l : List ℕ) (d : ℕ) → ((k : ℕ) → 
 none_first q l zero h few = refl
 none_first q [] (suc d) h few = refl
 none_first q (x ∷ l) (suc d) h few = rw (h 0 (omega arith)) (none_first q l d (λ k j. h (suc k) (omega arith)) (omega arith))
-
--- what fails below p and at p fails below p + 1
-pub none_more : (t : ℕ → Bool) (p : ℕ) → ((k : ℕ) → k < p → t k ≡ false) → t p ≡ false → (k : ℕ) → k < p + 1 → t k ≡ false
-none_more t p h e k l = last_or_below l (λ w. rw w e) (h k)
 
 -- MARKS OF A VOLUME
 bit_test : (b : Bool) → eqb (bit b) 1 ≡ b

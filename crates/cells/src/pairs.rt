@@ -71,13 +71,11 @@ fn each_once(
     ensures { result ≡ ends_once (column block.now 1) (column block.now 2) numbers.now firsts.now count }
 {
     // The edges of the vertices before a do; no colour is above a.
-    let mut a = 0;
-    while a < count {
+    for a in 0..count {
         let p = firsts[a];
         if !ends_differ(block, n, Place(p), a, numbers, colours) {
             return false;
         }
-        a += 1;
     }
     true
 }

@@ -9,10 +9,8 @@ pub fn unmark(order: &[usize], count: usize, marks: &mut [u8])
     ensures { Assigned 0 (take count order.now) marks.old marks.new }
 {
     // Those before i are unmarked.
-    let mut i = 0;
-    while i < count {
+    for i in 0..count {
         marks[order[i]] = 0;
-        i += 1;
     }
 }
 
@@ -22,10 +20,8 @@ pub fn unnumber(order: &[usize], count: usize, numbers: &mut [usize])
     ensures { Assigned room (take count order.now) numbers.old numbers.new }
 {
     // Those before i have none.
-    let mut i = 0;
-    while i < count {
+    for i in 0..count {
         numbers[order[i]] = 4096;
-        i += 1;
     }
 }
 
@@ -34,10 +30,5 @@ pub fn clear(table: &mut [usize])
     requires { length table.old ≤ room }
     ensures { table.new ≡ replicate (length table.old) 0 }
 {
-    // What stands before i is 0.
-    let mut i = 0;
-    while i < table.len() {
-        table[i] = 0;
-        i += 1;
-    }
+    table.fill(0);
 }

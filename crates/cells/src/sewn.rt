@@ -28,13 +28,11 @@ pub fn sewn_within(block: &[u64], n: usize, marks: &[u8], order: &[usize], darts
     ensures { result ≡ any (sewn_in block.now marks.now) (take darts order.now) }
 {
     // None of the darts before i is.
-    let mut i = 0;
-    while i < darts {
+    for i in 0..darts {
         let p = order[i];
         if sewn_at(block, n, marks, Place(p)) {
             return true;
         }
-        i += 1;
     }
     false
 }
@@ -66,11 +64,9 @@ pub fn count_sewn(
 {
     // Of the faces before f, `sewn` are sewn away.
     let mut sewn = 0;
-    let mut f = 0;
-    while f < count {
+    for f in 0..count {
         let i = starts[f];
         let p = out[i];
-        f += 1;
         if !sewn_away(block, n, marks, Place(p)) {
             continue;
         }

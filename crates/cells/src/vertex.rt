@@ -54,10 +54,8 @@ fn number_all(
 {
     // The vertices of the darts before i have their numbers, at every dart of their rings.
     let mut count = 0;
-    let mut i = 0;
-    while i < darts {
+    for i in 0..darts {
         let p = order[i];
-        i += 1;
         if numbers[p] != 4096 {
             continue;
         }

@@ -50,10 +50,8 @@ pub fn least_place(order: &[usize], count: usize) -> Place
 {
     // The least of the places before i.
     let mut low = order[0];
-    let mut i = 1;
-    while i < count {
+    for i in 1..count {
         let p = order[i];
-        i += 1;
         if p < low {
             low = p;
         }

@@ -1,17 +1,12 @@
 // The cells of a block, a line for each: least serial, darts, faces, critical faces by the other block, mean of the corners.
 #![tactic(auto)]
 
-use corners::Mean;
-use corners::thousandths::Thousandths;
 use stats::rows::Told;
 use system::say;
 
 // Word i; 0 past the end.
 fn word(words: &[u64], i: usize) -> u64 {
-    if i < words.len() {
-        return words[i];
-    }
-    0
+    words.get(i).copied().unwrap_or(0)
 }
 
 // The last digit of a number.
@@ -22,14 +17,14 @@ fn digit(n: u64) -> u8 {
 // A coordinate to three decimals, or a minus where it is too far from zero.
 fn show_coordinate(x: f64) {
     match corners::thousandths::in_thousandths(x) {
-        Thousandths::Are(negative, n) => {
+        Some((negative, n)) => {
             if negative & (n != 0) {
                 say::text(b"-");
             }
             say::number(n / 1000);
             say::text(&[b'.', digit(n / 100), digit(n / 10), digit(n)]);
         }
-        Thousandths::Far => {
+        None => {
             say::text(b"-");
         }
     }
@@ -38,7 +33,7 @@ fn show_coordinate(x: f64) {
 // The mean of the corners of the cell that has a serial.
 fn show_mean(block: &[u64], serial: u64) {
     match corners::mean_of(block, serial) {
-        Mean::Is(p) => {
+        Some(p) => {
             say::text(b" (");
             show_coordinate(p.x);
             say::text(b", ");
@@ -47,7 +42,7 @@ fn show_mean(block: &[u64], serial: u64) {
             show_coordinate(p.z);
             say::text(b")\n");
         }
-        Mean::Not => {
+        None => {
             say::text(b" -\n");
         }
     }
@@ -71,10 +66,8 @@ fn show_border(told: bool, o: usize, n: u64) -> bool {
 // The same for each block, from the row of a cell; a minus where there is none.
 fn show_borders(row: &[u64]) {
     let mut told = false;
-    let mut o: usize = 0;
-    while o < memory::header::BLOCKS {
+    for o in 0..memory::header::BLOCKS {
         told = show_border(told, o, word(row, 3 + o));
-        o += 1;
     }
     if !told {
         say::text(b" -");
@@ -100,25 +93,17 @@ fn show_rows(block: &[u64], count: usize, rows: &[u64]) {
     say::text(b" cells ");
     say::number(count as u64);
     say::text(b"\n");
-    let mut c = 0;
-    while c < rows.len() / 19 {
-        let from = c * 19;
-        let end = from + 19;
-        show_cell(block, &rows[from..end]);
-        c += 1;
+    for row in rows.chunks_exact(19) {
+        show_cell(block, row);
     }
 }
 
 // The cells of a block's memory, by way of lent rows.
 pub fn show(block: &[u64], rows: &mut [u64]) {
     match stats::rows::cell_figures(block, rows) {
-        Told::Cells(count) => {
-            if count <= rows.len() / 19 {
-                let end = count * 19;
-                show_rows(block, count, &rows[0..end]);
-            }
+        Told::Cells(count) if count <= rows.len() / 19 => {
+            show_rows(block, count, &rows[..count * 19]);
         }
-        Told::Short => {}
-        Told::Unsound => {}
+        Told::Cells(_) | Told::Short | Told::Unsound => {}
     }
 }

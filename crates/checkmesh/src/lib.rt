@@ -14,30 +14,30 @@ pub fn mesh_asked(mesh: &[u64], viewers: u32, scratch: &mut [u64]) -> Answer
     ensures { (answer_of result ≡ answered (whole_mesh_checks (limits_in viewers) mesh.now scratch.old)) × (scratch.new ≡ scratch.old) }
 {
     if !mesh::mesh_lent(mesh, scratch) {
-        return Answer::Refused(Refusal::MemorySize);
+        return Err(Refusal::MemorySize);
     }
     if !mesh::all_sound(mesh, viewers) {
-        return Answer::Refused(Refusal::NotAnImage);
+        return Err(Refusal::NotAnImage);
     }
     if !mesh::blocks_right(mesh) {
-        return Answer::Refused(Refusal::BlockNumbers);
+        return Err(Refusal::BlockNumbers);
     }
     if !mesh::serials::serials_distinct(mesh, scratch) {
-        return Answer::Refused(Refusal::SerialsRepeated);
+        return Err(Refusal::SerialsRepeated);
     }
     let p = pairing::paired(mesh, scratch);
     match p {
         Pairing::Unpaired => {
-            return Answer::Refused(Refusal::LabelsUnpaired);
+            return Err(Refusal::LabelsUnpaired);
         }
         Pairing::Apart => {
-            return Answer::Refused(Refusal::PointsAcross);
+            return Err(Refusal::PointsAcross);
         }
         Pairing::Right => {
             if !mesh::makers::makers_right(mesh) {
-                return Answer::Refused(Refusal::MakersWrong);
+                return Err(Refusal::MakersWrong);
             }
-            return Answer::Served;
+            return Ok(());
         }
     }
 }

@@ -1,4 +1,5 @@
 -- What layouts take of a slice: one after the other, counted, and item by item. Assumes nothing.
+use Rattle.std.specs.Prelude.{None, Option as Optional, Some}
 use mathlib.Core.Path.{◌≡◌, refl, sym, ◌∙◌, ap, subst}
 use mathlib.Core.Bool.{Bool, true, false}
 use mathlib.Core.List.{List, [], ◌∷◌, ◌++◌, append_assoc, append-nil}
@@ -9,27 +10,24 @@ use lib.ListN.{length, drop, length-append}
 use Rattle.model.specs.Layouts.{Layout, Read, then, group, serial, coordinate, at_most, as_type, such_that, ◌⊗◌, ◌⊕◌, get_all, times, counted}
 use Rattle.model.specs.Messages.{face_dart}
 use Rattle.groups.specs.Slices.{read_at}
-use Rattle.groups.specs.declared.Read.TheVariants.{Value}
 use Rattle.groups.proofs.Ends.{Reads, group_at, serial_at, at_most_at, coordinate_at}
 use Rattle.codec.specs.Taken.{Took}
 use Rattle.codec.specs.Entries.{FacedSaid, FacedRead}
-use Rattle.codec.specs.declared.entry.Faced.{Faced}
-use Rattle.codec.specs.declared.entry.Faced.TheVariants as faced
 
 -- NUMBERS
 pub took_reads : {A : Type 0} {l : Layout A} {s : List ℕ} {at : ℕ} {v : A} {next : ℕ} → Reads l s at v next → Took l s at v next
 took_reads r = record { value = r.value; onward = let h = r.past in omega arith; within = r.within }
 
-pub took_group : {s : List ℕ} {at v next : ℕ} → Value v next ≡ read_at group s at → Took group s at v next
+pub took_group : {s : List ℕ} {at v next : ℕ} → Some (v, next) ≡ read_at group s at → Took group s at v next
 took_group e = took_reads (group_at e)
 
-pub took_serial : {s : List ℕ} {at v next : ℕ} → Value v next ≡ read_at serial s at → Took serial s at v next
+pub took_serial : {s : List ℕ} {at v next : ℕ} → Some (v, next) ≡ read_at serial s at → Took serial s at v next
 took_serial e = took_reads (serial_at e)
 
-pub took_at_most : (n : ℕ) {s : List ℕ} {at v next : ℕ} → Value v next ≡ read_at (at_most n) s at → Took (at_most n) s at v next
+pub took_at_most : (n : ℕ) {s : List ℕ} {at v next : ℕ} → Some (v, next) ≡ read_at (at_most n) s at → Took (at_most n) s at v next
 took_at_most n e = took_reads (at_most_at n e)
 
-pub took_coordinate : {s : List ℕ} {at v next : ℕ} → Value v next ≡ read_at coordinate s at → Took coordinate s at v next
+pub took_coordinate : {s : List ℕ} {at v next : ℕ} → Some (v, next) ≡ read_at coordinate s at → Took coordinate s at v next
 took_coordinate e = took_reads (coordinate_at e)
 
 -- ONE AFTER THE OTHER
@@ -174,10 +172,10 @@ module _ {A : Type 0} (l : Layout A) where
       count = omega arith
 
 -- A DART OF A FACE
-pub faced_took : {s : List ℕ} {at v x next : ℕ} {r : Faced} → r ≡ faced.Dart v x next → FacedRead s at r → Took face_dart s at (record { vertex = v; serial = x }) next
+pub faced_took : {s : List ℕ} {at v x next : ℕ} {r : Optional (ℕ × ℕ × ℕ)} → r ≡ Some (v, x, next) → FacedRead s at r → Took face_dart s at (record { vertex = v; serial = x }) next
 faced_took {s} {at} e d = subst (FacedSaid s at) e d.said
 
-pub faced_none : {s : List ℕ} {at : ℕ} {r : Faced} → r ≡ faced.Bad → FacedRead s at r → face_dart.get (drop at s) ≡ none
+pub faced_none : {s : List ℕ} {at : ℕ} {r : Optional (ℕ × ℕ × ℕ)} → r ≡ None → FacedRead s at r → face_dart.get (drop at s) ≡ none
 faced_none {s} {at} e d = subst (FacedSaid s at) e d.said
 
 pub dart_none : (bs : List ℕ) → group.get bs ≡ none → face_dart.get bs ≡ none

@@ -1,7 +1,7 @@
 -- A dart by its values as a file has them: next and opposite by serial, a kind word and what the third link names, the words of its point. Assumes nothing.
 --   link_bytes    the bytes that it begins with
 --   dart_read     what is read at a place of a slice
-use Rattle.std.specs.Prelude.{List, ◌++◌, ℕ, ◌-◌, length, drop}
+use Rattle.std.specs.Prelude.{List, ◌++◌, ℕ, ◌-◌, length, drop, None, Option as Optional, Some}
 use Rattle.std.proofs.Math.Option.{Option, none, some}
 use Rattle.model.specs.Values.{Dart}
 use Rattle.model.specs.Layouts.{serial}
@@ -9,8 +9,6 @@ use Rattle.model.specs.Image.{kind_word}
 use Rattle.model.specs.Messages.{a_dart}
 use Rattle.codec.specs.Thirds.{named_by}
 use Rattle.codec.specs.declared.dart.FileDart.{FileDart}
-use Rattle.codec.specs.declared.dart.Parsed.{Parsed}
-use Rattle.codec.specs.declared.dart.Parsed.TheVariants as parsed
 
 -- serial, next, opposite
 unfoldable pub link_bytes : ℕ → ℕ → ℕ → List ℕ
@@ -28,9 +26,9 @@ dart_values d = record {
   z = d.point.z;
 }
 
-abbrev pub placed_dart : ℕ → Option (Dart × List ℕ) → Parsed
-placed_dart n none = parsed.Bad
-placed_dart n (some r) = parsed.Dart (dart_values r.0) (n - length r.1)
+abbrev pub placed_dart : ℕ → Option (Dart × List ℕ) → Optional (FileDart × ℕ)
+placed_dart n none = None
+placed_dart n (some r) = Some ((dart_values r.0), (n - length r.1))
 
-unfoldable pub dart_read : List ℕ → ℕ → Parsed
+unfoldable pub dart_read : List ℕ → ℕ → Optional (FileDart × ℕ)
 dart_read s at = placed_dart (length s) (a_dart.get (drop at s))

@@ -1,12 +1,10 @@
 -- A third link by its kind word and what it names, the serial of a sewn dart or the code of a label: its bytes, what they ask for, and what is read. Assumes nothing.
-use Rattle.std.specs.Prelude.{◌≡◌, true, List, ℕ, ◌-◌, ◌^◌, ◌<◌, length, drop}
+use Rattle.std.specs.Prelude.{◌≡◌, true, List, ℕ, ◌-◌, ◌^◌, ◌<◌, length, drop, None, Option as Optional, Some}
 use Rattle.std.proofs.Math.Option.{Option, none, some}
 use Rattle.model.specs.Values.{Third, free, sewn, critical, code, serial_bound, blocks}
 use Rattle.model.specs.Layouts.{Layout, as_type, at_most, ◌⊗◌}
 use Rattle.model.specs.Image.{kind_word, is_sewn_word, other_in, third_in}
 use Rattle.model.specs.Messages.{kind_of, third}
-use Rattle.codec.specs.declared.third.Linked.{Linked}
-use Rattle.codec.specs.declared.third.Linked.TheVariants as linked
 
 -- kind first
 unfoldable pub third_bytes : ℕ → ℕ → List ℕ
@@ -28,9 +26,9 @@ named_by (critical o l) = code l
 unfoldable pub kind_and_third : Layout Third
 kind_and_third = as_type (λ p. p.1) (λ t. (kind_of t, t)) (at_most 2 ⊗ third)
 
-abbrev pub placed_third : ℕ → Option (Third × List ℕ) → Linked
-placed_third n none = linked.Bad
-placed_third n (some r) = linked.Link (kind_word r.0) (named_by r.0) (n - length r.1)
+abbrev pub placed_third : ℕ → Option (Third × List ℕ) → Optional (ℕ × ℕ × ℕ)
+placed_third n none = None
+placed_third n (some r) = Some ((kind_word r.0), (named_by r.0), (n - length r.1))
 
-unfoldable pub third_read : Layout Third → List ℕ → ℕ → Linked
+unfoldable pub third_read : Layout Third → List ℕ → ℕ → Optional (ℕ × ℕ × ℕ)
 third_read l s at = placed_third (length s) (l.get (drop at s))

@@ -4,8 +4,6 @@ ghost use Rattle.model.specs.Values.{serial_bound};
 ghost use Rattle.groups.specs.Slices.{Stored};
 ghost use Rattle.codec.specs.Darts.{link_bytes, dart_read};
 
-use crate::entry::Located;
-use crate::third::Linked;
 use crate::{entry, third};
 use groups::Read;
 
@@ -32,32 +30,15 @@ pub struct FileDart {
     pub z: u64,
 }
 
-// A dart that was read, and the place past it.
-#[derive(Clone, Copy)]
-pub enum Parsed {
-    Dart(FileDart, usize),
-    Bad,
-}
-
-// Serial, next, opposite, third link, point.
-pub fn read_dart(s: &[u8], at: usize) -> Parsed
+// A dart, and the place past it: serial, next, opposite, third link, point.
+pub fn read_dart(s: &[u8], at: usize) -> Option<(FileDart, usize)>
     ensures { result ≡ dart_read s.now at }
 {
-    let Read::Value(serial, past_serial) = groups::read_serial(s, at) else {
-        return Parsed::Bad;
-    };
-    let Read::Value(next, past_next) = groups::read_serial(s, past_serial) else {
-        return Parsed::Bad;
-    };
-    let Read::Value(opposite, past_opposite) = groups::read_serial(s, past_next) else {
-        return Parsed::Bad;
-    };
-    let Linked::Link(kind, link, past_third) = third::read_third(s, past_opposite) else {
-        return Parsed::Bad;
-    };
-    let Located::Point(x, y, z, past) = entry::read_point(s, past_third) else {
-        return Parsed::Bad;
-    };
+    let (serial, past_serial) = groups::read_serial(s, at)?;
+    let (next, past_next) = groups::read_serial(s, past_serial)?;
+    let (opposite, past_opposite) = groups::read_serial(s, past_next)?;
+    let (kind, link, past_third) = third::read_third(s, past_opposite)?;
+    let (x, y, z, past) = entry::read_point(s, past_third)?;
     let d = FileDart {
         serial,
         next,
@@ -68,5 +49,5 @@ pub fn read_dart(s: &[u8], at: usize) -> Parsed
         y,
         z,
     };
-    Parsed::Dart(d, past)
+    Some((d, past))
 }

@@ -28,27 +28,14 @@ pub fn put_point(out: &mut [u8], at: usize, p: Point) -> usize
     groups::put_coordinate(out, past_y, z)
 }
 
-// A point that was read, and the place past it. Its coordinates stay words: only finite ones make a point, and that is asked later.
-#[derive(Clone, Copy)]
-pub enum Located {
-    Point(u64, u64, u64, usize),
-    Bad,
-}
-
-// A point: three coordinates.
-pub fn read_point(s: &[u8], at: usize) -> Located
+// A point, and the place past it. Its coordinates stay words: only finite ones make a point, and that is asked later.
+pub fn read_point(s: &[u8], at: usize) -> Option<(u64, u64, u64, usize)>
     ensures { result ≡ point_read s.now at }
 {
-    let Read::Value(x, past_x) = groups::read_coordinate(s, at) else {
-        return Located::Bad;
-    };
-    let Read::Value(y, past_y) = groups::read_coordinate(s, past_x) else {
-        return Located::Bad;
-    };
-    let Read::Value(z, next) = groups::read_coordinate(s, past_y) else {
-        return Located::Bad;
-    };
-    Located::Point(x, y, z, next)
+    let (x, past_x) = groups::read_coordinate(s, at)?;
+    let (y, past_y) = groups::read_coordinate(s, past_x)?;
+    let (z, next) = groups::read_coordinate(s, past_y)?;
+    Some((x, y, z, next))
 }
 
 // A dart of a face: the number of its vertex, then its serial.
@@ -60,24 +47,13 @@ pub fn put_dart(out: &mut [u8], at: usize, vertex: usize, serial: u64) -> usize
     groups::put_serial(out, past, serial)
 }
 
-// A dart of a face that was read: its vertex, its serial, and the place past it.
-#[derive(Clone, Copy)]
-pub enum Faced {
-    Dart(u64, u64, usize),
-    Bad,
-}
-
-// In the same order.
-pub fn read_dart(s: &[u8], at: usize) -> Faced
+// A dart of a face: its vertex, its serial, and the place past it.
+pub fn read_dart(s: &[u8], at: usize) -> Option<(u64, u64, usize)>
     ensures { FacedRead s.now at result }
 {
-    let Read::Value(vertex, past) = reader::read_group(s, at) else {
-        return Faced::Bad;
-    };
-    let Read::Value(serial, next) = reader::read_serial(s, past) else {
-        return Faced::Bad;
-    };
-    Faced::Dart(vertex, serial, next)
+    let (vertex, past) = reader::read_group(s, at)?;
+    let (serial, next) = reader::read_serial(s, past)?;
+    Some((vertex, serial, next))
 }
 
 // A face critical with the destination: the label of its start, as a code, then the start's index.
@@ -94,9 +70,7 @@ pub fn put_part2(out: &mut [u8], at: usize, code: u64, index: MessageIndex) -> u
 pub fn pass_part2(s: &[u8], at: usize) -> Read
     ensures { Passes part2 s.now at result }
 {
-    let Read::Value(code, past) = reader::read_label(s, at) else {
-        return Read::Bad;
-    };
+    let (code, past) = reader::read_label(s, at)?;
     reader::read_group(s, past)
 }
 
@@ -114,9 +88,7 @@ pub fn put_part3(out: &mut [u8], at: usize, number: u64, index: MessageIndex) ->
 pub fn pass_part3(s: &[u8], at: usize) -> Read
     ensures { Passes part3 s.now at result }
 {
-    let Read::Value(number, past) = reader::read_group(s, at) else {
-        return Read::Bad;
-    };
+    let (number, past) = reader::read_group(s, at)?;
     reader::read_group(s, past)
 }
 
@@ -156,15 +128,11 @@ pub fn pass_labels(s: &[u8], at: usize, count: u64) -> Read
     requires { at ≤ length s.now }
     ensures { Passes (times count label) s.now at result }
 {
-    // All but the last `left` are passed.
-    let mut left = count;
+    // Those before this turn are passed, up to `p`.
     let mut p = at;
-    while 0 < left {
-        let Read::Value(code, next) = reader::read_label(s, p) else {
-            return Read::Bad;
-        };
+    for _ in 0..count {
+        let (code, next) = reader::read_label(s, p)?;
         p = next;
-        left -= 1;
     }
-    Read::Value(count, p)
+    Some((count, p))
 }

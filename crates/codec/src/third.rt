@@ -25,41 +25,26 @@ pub fn put_third(kind: u64, named: u64, out: &mut [u8], at: usize) -> usize
     groups::put_label(out, past_other, named)
 }
 
-// A third link that was read, as kind word and link word, and the place past it.
-#[derive(Clone, Copy)]
-pub enum Linked {
-    Link(u64, u64, usize),
-    Bad,
-}
-
 // What follows kind 2: the other block, and the label.
-fn read_critical(s: &[u8], at: usize) -> Linked
+fn read_critical(s: &[u8], at: usize) -> Option<(u64, u64, usize)>
     ensures { result ≡ third_read (third 2) s.now at }
 {
-    let Read::Value(other, past_other) = groups::read_at_most(s, at, Header::BLOCKS - 1) else {
-        return Linked::Bad;
-    };
-    let Read::Value(label, next) = groups::read_label(s, past_other) else {
-        return Linked::Bad;
-    };
-    Linked::Link(kind::critical_with(other), label, next)
+    let (other, past_other) = groups::read_at_most(s, at, Header::BLOCKS - 1)?;
+    let (label, next) = groups::read_label(s, past_other)?;
+    Some((kind::critical_with(other), label, next))
 }
 
-// A third link: its kind, and what follows it.
-pub fn read_third(s: &[u8], at: usize) -> Linked
+// A third link, as kind word and link word, and the place past it.
+pub fn read_third(s: &[u8], at: usize) -> Option<(u64, u64, usize)>
     ensures { result ≡ third_read kind_and_third s.now at }
 {
-    let Read::Value(kind, past_kind) = groups::read_at_most(s, at, 2) else {
-        return Linked::Bad;
-    };
+    let (kind, past_kind) = groups::read_at_most(s, at, 2)?;
     if kind == kind::FREE {
-        return Linked::Link(kind::FREE, 0, past_kind);
+        return Some((kind::FREE, 0, past_kind));
     }
     if kind == 2 {
         return read_critical(s, past_kind);
     }
-    let Read::Value(sewn, next) = groups::read_serial(s, past_kind) else {
-        return Linked::Bad;
-    };
-    Linked::Link(kind::SEWN, sewn, next)
+    let (sewn, next) = groups::read_serial(s, past_kind)?;
+    Some((kind::SEWN, sewn, next))
 }

@@ -1,4 +1,5 @@
 -- Texts read byte by byte: a number's digits, the first bytes that pass a test, two texts side by side. Assumes nothing.
+use Rattle.std.specs.Prelude.{None, Some}
 use mathlib.Core.Path.{◌≡◌, refl, ap}
 use mathlib.Core.Bool.{Bool, true, false, ◌&&◌}
 use mathlib.Core.List.{List, [], ◌∷◌}
@@ -6,11 +7,11 @@ use Prim.Native.Nat.{ℕ, suc, ◌+◌, ◌*◌, ◌-◌, ◌^◌, ◌<◌, ◌�
 use native.Mathlib.Omega.{arith}
 use lib.Dec.{leb, eqb}
 use lib.ListN.{length, get_or, drop}
-use borrow.Author.Tests.{lt-ltb, le-ltb, leb-true, eq-eqb, ne_eqb}
+use lib.Pointwise.{pointwise}
+use borrow.Author.Tests.{lt-ltb, le-ltb, leb-true}
 use Rattle.model.specs.Lists.{same_list}
 use Rattle.laws.proofs.Tests.{and_left, and_right}
 use Rattle.laws.proofs.Lists.{drop_at_cons, drop_end}
-use Rattle.commands.specs.declared.words.Number.TheVariants as number
 use Rattle.model.specs.Text.{is_digit}
 use Rattle.commands.specs.Words.{digits_from, number_in, leading}
 
@@ -19,15 +20,15 @@ pub digits_on : (t : List ℕ) (n i v : ℕ) → i < length t → is_digit (get_
 unfolding digits_from
 digits_on t n i v h d e l = rw (drop_at_cons t i h, d, ← e, lt-ltb v (2 ^ 32) l)
 
-pub digits_no_digit : (t : List ℕ) (n i : ℕ) → i < length t → is_digit (get_or t i 0) ≡ false → digits_from n (drop i t) ≡ number.Not
+pub digits_no_digit : (t : List ℕ) (n i : ℕ) → i < length t → is_digit (get_or t i 0) ≡ false → digits_from n (drop i t) ≡ None
 unfolding digits_from
 digits_no_digit t n i h d = rw (drop_at_cons t i h, d)
 
-pub digits_too_many : (t : List ℕ) (n i v : ℕ) → i < length t → is_digit (get_or t i 0) ≡ true → v ≡ 10 * n + (get_or t i 0 - 48) → 2 ^ 32 ≤ v → digits_from n (drop i t) ≡ number.Not
+pub digits_too_many : (t : List ℕ) (n i v : ℕ) → i < length t → is_digit (get_or t i 0) ≡ true → v ≡ 10 * n + (get_or t i 0 - 48) → 2 ^ 32 ≤ v → digits_from n (drop i t) ≡ None
 unfolding digits_from
 digits_too_many t n i v h d e l = rw (drop_at_cons t i h, d, ← e, le-ltb v (2 ^ 32) l)
 
-pub digits_end : (t : List ℕ) (n i : ℕ) → length t ≤ i → digits_from n (drop i t) ≡ number.Is n
+pub digits_end : (t : List ℕ) (n i : ℕ) → length t ≤ i → digits_from n (drop i t) ≡ Some n
 unfolding digits_from
 digits_end t n i h = rw (drop_end t i h)
 
@@ -36,7 +37,7 @@ unfolding number_in
 number_some [] h = absurd (omega arith)
 number_some (b ∷ bs) h = refl
 
-pub number_none : (t : List ℕ) → length t ≡ 0 → number.Not ≡ number_in t
+pub number_none : (t : List ℕ) → length t ≡ 0 → None ≡ number_in t
 unfolding number_in
 number_none [] h = refl
 number_none (b ∷ bs) h = absurd (omega (arith, h))
@@ -67,18 +68,13 @@ digit_to b h = leb-true b 57 (and_right (leb 48 b) (leb b 57) h)
 pub leading_start : (p : ℕ → Bool) (t : List ℕ) → 0 + leading p (drop 0 t) ≡ leading p t
 leading_start p t = omega arith
 
--- TWO TEXTS, the same before i
-pub same_on : (s t : List ℕ) (i : ℕ) → i < length s → i < length t → get_or s i 0 ≡ get_or t i 0 → same_list (drop i s) (drop i t) ≡ same_list (drop (i + 1) s) (drop (i + 1) t)
+-- TWO TEXTS compared by `==`
+pub same_by_bytes : (s t : List ℕ) → pointwise eqb s t ≡ same_list s t
 unfolding same_list
-same_on s t i h k e = rw (drop_at_cons s i h, drop_at_cons t i k, eq-eqb _ _ e)
-
-pub same_stop : (s t : List ℕ) (i : ℕ) → i < length s → i < length t → (get_or s i 0 ≡ get_or t i 0 → ⊥) → same_list (drop i s) (drop i t) ≡ false
-unfolding same_list
-same_stop s t i h k e = rw (drop_at_cons s i h, drop_at_cons t i k, ne_eqb _ _ e)
-
-pub same_end : (s t : List ℕ) (i : ℕ) → length s ≤ i → length t ≤ i → same_list (drop i s) (drop i t) ≡ true
-unfolding same_list
-same_end s t i h k = rw (drop_end s i h, drop_end t i k)
+same_by_bytes [] [] = refl
+same_by_bytes [] (y ∷ t) = refl
+same_by_bytes (x ∷ s) [] = refl
+same_by_bytes (x ∷ s) (y ∷ t) = ap (λ (e : Bool). eqb x y && e) (same_by_bytes s t)
 
 pub same_short : (s t : List ℕ) → (length s ≡ length t → ⊥) → same_list s t ≡ false
 unfolding same_list

@@ -1,4 +1,5 @@
 -- The file `viewers`, block by block. Assumes nothing.
+use Rattle.std.specs.Prelude.{None, Some}
 use mathlib.Core.Path.{◌≡◌, refl, sym, ap, ◌∙◌}
 use mathlib.Core.Bool.{Bool, true, false, true≢false, cond}
 use mathlib.Core.List.{List, [], ◌∷◌}
@@ -13,7 +14,6 @@ use Rattle.model.specs.Lists.{same_list}
 use Rattle.model.specs.Values.{is_viewer}
 use Rattle.laws.proofs.Tests.{by_cases}
 use Rattle.laws.proofs.Lists.{rest_whole}
-use Rattle.commands.specs.declared.viewers.Viewers.TheVariants as viewers
 use Rattle.commands.specs.Viewers.{number_then, ends_with, goes_on_with, viewers_from, viewers_in}
 use Rattle.commands.proofs.Scans.{same_short}
 
@@ -53,7 +53,7 @@ pub record Viewing (s : List ℕ) (v at b : ℕ) : Type 0 where
   pub below : v < 2 ^ b
   pub same : viewers_from (16 - b) b v s at ≡ viewers_in s
 
-pub viewing_none : (s : List ℕ) → same_list s (10 ∷ []) ≡ true → viewers.Bits 0 ≡ viewers_in s
+pub viewing_none : (s : List ℕ) → same_list s (10 ∷ []) ≡ true → Some 0 ≡ viewers_in s
 unfolding viewers_in
 viewing_none s h = rw h
 
@@ -66,18 +66,18 @@ viewing_start s h = record { within = omega arith; few = omega arith; below = om
 
 -- one block more
 asked : (n b v at : ℕ) (s : List ℕ) → viewers_from (suc n) b v s at
-    ≡ cond (ends_with s at b) (viewers.Bits (v + 2 ^ b)) (cond (goes_on_with s at b) (viewers_from n (b + 1) (v + 2 ^ b) s (at + length (number_then b 32))) (viewers_from n (b + 1) v s at))
+    ≡ cond (ends_with s at b) (Some (v + 2 ^ b)) (cond (goes_on_with s at b) (viewers_from n (b + 1) (v + 2 ^ b) s (at + length (number_then b 32))) (viewers_from n (b + 1) v s at))
 unfolding viewers_from
 asked n b v at s = refl
 
 module _ {s : List ℕ} {v at b : ℕ} (w : Viewing s v at b) (h : b < 16) where
   next_asked : viewers_in s
-      ≡ cond (ends_with s at b) (viewers.Bits (v + 2 ^ b)) (cond (goes_on_with s at b) (viewers_from (16 - (b + 1)) (b + 1) (v + 2 ^ b) s (at + length (number_then b 32))) (viewers_from (16 - (b + 1)) (b + 1) v s at))
+      ≡ cond (ends_with s at b) (Some (v + 2 ^ b)) (cond (goes_on_with s at b) (viewers_from (16 - (b + 1)) (b + 1) (v + 2 ^ b) s (at + length (number_then b 32))) (viewers_from (16 - (b + 1)) (b + 1) v s at))
   next_asked =
       let left : 16 - b ≡ suc (16 - (b + 1)) = omega arith in
       sym w.same ∙ ap (λ (n : ℕ). viewers_from n b v s at) left ∙ asked (16 - (b + 1)) b v at s
 
-  pub viewing_ends : ends_with s at b ≡ true → viewers.Bits (v + 2 ^ b) ≡ viewers_in s
+  pub viewing_ends : ends_with s at b ≡ true → Some (v + 2 ^ b) ≡ viewers_in s
   viewing_ends e = rw (next_asked, e)
 
   pub viewing_goes_on : ends_with s at b ≡ false → goes_on_with s at b ≡ true → at + length (number_then b 32) ≤ length s → Viewing s (v + 2 ^ b) (at + length (number_then b 32)) (b + 1)
@@ -86,11 +86,11 @@ module _ {s : List ℕ} {v at b : ℕ} (w : Viewing s v at b) (h : b < 16) where
   pub viewing_passes : ends_with s at b ≡ false → goes_on_with s at b ≡ false → Viewing s v at (b + 1)
   viewing_passes e g = record { within = w.within; few = omega arith; below = omega (arith, bit_next b, w.below); same = rw (next_asked, e, g) }
 
-over : (b v at : ℕ) (s : List ℕ) → viewers_from 0 b v s at ≡ viewers.Wrong
+over : (b v at : ℕ) (s : List ℕ) → viewers_from 0 b v s at ≡ None
 unfolding viewers_from
 over b v at s = refl
 
-pub viewing_over : {s : List ℕ} {v at b : ℕ} → Viewing s v at b → 16 ≤ b → viewers.Wrong ≡ viewers_in s
+pub viewing_over : {s : List ℕ} {v at b : ℕ} → Viewing s v at b → 16 ≤ b → None ≡ viewers_in s
 viewing_over {s} {v} {at} {b} w h = let none : 16 - b ≡ 0 = omega arith in sym (ap (λ (n : ℕ). viewers_from n b v s at) none ∙ over b v at s) ∙ w.same
 
 -- a number as the code reads it

@@ -1,10 +1,6 @@
 -- Lines of requests. Assumes nothing.
-use Rattle.std.specs.Prelude.{Bool, cond, List, ℕ, ◌+◌, ◌-◌, eqb, length, take, drop}
-use Rattle.commands.specs.declared.words.Number.{Number}
-use Rattle.commands.specs.declared.words.Number.TheVariants as number
+use Rattle.std.specs.Prelude.{Bool, cond, List, ℕ, ◌+◌, ◌-◌, eqb, length, take, drop, None, Option, Some}
 use Rattle.commands.specs.declared.words.Kind.TheVariants as kind
-use Rattle.commands.specs.declared.lines.Field.{Field}
-use Rattle.commands.specs.declared.lines.Field.TheVariants as field
 use Rattle.commands.specs.declared.lines.Line.{Line}
 use Rattle.commands.specs.declared.lines.Line.TheVariants as line
 use Rattle.commands.specs.Words.{number_in, belongs, leading}
@@ -14,25 +10,25 @@ unfoldable pub rest_blank : List ℕ → ℕ → Bool
 rest_blank s at = eqb (leading (belongs kind.Blanks) (drop at s)) (length s - at)
 
 -- a word as a number, with the place past it
-abbrev pub valued : Number → ℕ → Field
-valued (number.Is n) end = field.Value n end
-valued number.Not end = field.Other
+abbrev pub valued : Option ℕ → ℕ → Option (ℕ × ℕ)
+valued (Some n) end = Some (n, end)
+valued None end = None
 
 -- the word of so many bytes from a place on, as a number
-unfoldable pub word_at : List ℕ → ℕ → ℕ → Field
+unfoldable pub word_at : List ℕ → ℕ → ℕ → Option (ℕ × ℕ)
 word_at s from size = valued (number_in (take size (drop from s))) (from + size)
 
 -- the word that stands behind blanks from a place on
-unfoldable pub field_from : List ℕ → ℕ → Field
+unfoldable pub field_from : List ℕ → ℕ → Option (ℕ × ℕ)
 field_from s from = word_at s from (leading (belongs kind.Word) (drop from s))
 
-unfoldable pub field_in : List ℕ → ℕ → Field
+unfoldable pub field_in : List ℕ → ℕ → Option (ℕ × ℕ)
 field_in s at = field_from s (at + leading (belongs kind.Blanks) (drop at s))
 
 -- a number, and what follows it
-abbrev pub then_line : Field → (ℕ → ℕ → Line) → Line
-then_line (field.Value n past) more = more n past
-then_line field.Other more = line.Other
+abbrev pub then_line : Option (ℕ × ℕ) → (ℕ → ℕ → Line) → Line
+then_line (Some (n, past)) more = more n past
+then_line None more = line.Other
 
 -- 'from to serial'
 unfoldable pub line_in : List ℕ → Line

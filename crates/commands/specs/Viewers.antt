@@ -1,10 +1,8 @@
 -- The file `viewers` of a basin: one line with the numbers of the blocks that are viewers', ascending, one blank between two. Its value has bit b
 -- for block b. Wrong readings that this is not: '7 3' as the viewers of '3 7'; '3 7' without its line feed as whole. Assumes nothing.
-use Rattle.std.specs.Prelude.{Bool, cond, ◌≡◌, refl, List, [], ◌∷◌, ℕ, zero, suc, ◌+◌, ◌/◌, ◌%◌, ◌^◌, ltb, length, take, drop}
+use Rattle.std.specs.Prelude.{Bool, cond, ◌≡◌, refl, List, [], ◌∷◌, ℕ, zero, suc, ◌+◌, ◌/◌, ◌%◌, ◌^◌, ltb, length, take, drop, None, Option, Some}
 use Rattle.model.specs.Lists.{same_list}
 use Rattle.model.specs.Values.{blocks}
-use Rattle.commands.specs.declared.viewers.Viewers.{Viewers}
-use Rattle.commands.specs.declared.viewers.Viewers.TheVariants as viewers
 
 -- a block's number, without a zero in front, and one byte behind it
 unfoldable pub number_then : ℕ → ℕ → List ℕ
@@ -20,30 +18,30 @@ goes_on_with s at b = same_list (take (length (number_then b 32)) (drop at s)) (
 
 -- the next n blocks, from b on, where those of v are viewers' and the text is read up to a place: each block's number stands there or the block
 -- is no viewer's; so numbers ascend, and behind the last of them there is nothing
-unfoldable pub viewers_from : ℕ → ℕ → ℕ → List ℕ → ℕ → Viewers
-viewers_from zero b v s at = viewers.Wrong
+unfoldable pub viewers_from : ℕ → ℕ → ℕ → List ℕ → ℕ → Option ℕ
+viewers_from zero b v s at = None
 viewers_from (suc n) b v s at =
     let more = viewers_from n (b + 1) (v + 2 ^ b) s (at + length (number_then b 32)) in
     let others = viewers_from n (b + 1) v s at in
-    cond (ends_with s at b) (viewers.Bits (v + 2 ^ b)) (cond (goes_on_with s at b) more others)
+    cond (ends_with s at b) (Some (v + 2 ^ b)) (cond (goes_on_with s at b) more others)
 
 -- a line feed alone: none
-unfoldable pub viewers_in : List ℕ → Viewers
-viewers_in s = cond (same_list s (10 ∷ [])) (viewers.Bits 0) (viewers_from blocks 0 0 s 0)
+unfoldable pub viewers_in : List ℕ → Option ℕ
+viewers_in s = cond (same_list s (10 ∷ [])) (Some 0) (viewers_from blocks 0 0 s 0)
 
 -- '3 7', '0 15', '7 3', and '3 7' without its line feed
-three_seven : viewers_in (51 ∷ 32 ∷ 55 ∷ 10 ∷ []) ≡ viewers.Bits 136
+three_seven : viewers_in (51 ∷ 32 ∷ 55 ∷ 10 ∷ []) ≡ Some 136
 unfolding viewers_in viewers_from ends_with goes_on_with number_then same_list
 three_seven = refl
 
-first_last : viewers_in (48 ∷ 32 ∷ 49 ∷ 53 ∷ 10 ∷ []) ≡ viewers.Bits 32769
+first_last : viewers_in (48 ∷ 32 ∷ 49 ∷ 53 ∷ 10 ∷ []) ≡ Some 32769
 unfolding viewers_in viewers_from ends_with goes_on_with number_then same_list
 first_last = refl
 
-not_ascending : viewers_in (55 ∷ 32 ∷ 51 ∷ 10 ∷ []) ≡ viewers.Wrong
+not_ascending : viewers_in (55 ∷ 32 ∷ 51 ∷ 10 ∷ []) ≡ None
 unfolding viewers_in viewers_from ends_with goes_on_with number_then same_list
 not_ascending = refl
 
-not_ended : viewers_in (51 ∷ 32 ∷ 55 ∷ []) ≡ viewers.Wrong
+not_ended : viewers_in (51 ∷ 32 ∷ 55 ∷ []) ≡ None
 unfolding viewers_in viewers_from ends_with goes_on_with number_then same_list
 not_ended = refl

@@ -1,19 +1,17 @@
 -- Numbers and words of a text. Assumes nothing.
-use Rattle.std.specs.Prelude.{Bool, cond, not, ◌&&◌, ◌||◌, List, [], ◌∷◌, ℕ, suc, ◌+◌, ◌*◌, ◌-◌, ◌^◌, ltb, eqb}
+use Rattle.std.specs.Prelude.{Bool, cond, not, ◌&&◌, ◌||◌, List, [], ◌∷◌, ℕ, suc, ◌+◌, ◌*◌, ◌-◌, ◌^◌, ltb, eqb, None, Option, Some}
 use Rattle.model.specs.Text.{is_digit}
-use Rattle.commands.specs.declared.words.Number.{Number}
-use Rattle.commands.specs.declared.words.Number.TheVariants as number
 use Rattle.commands.specs.declared.words.Kind.{Kind}
 use Rattle.commands.specs.declared.words.Kind.TheVariants as kind
 
 -- the number that digits give behind those that gave n
-unfoldable pub digits_from : ℕ → List ℕ → Number
-digits_from n [] = number.Is n
-digits_from n (b ∷ bs) = let v = 10 * n + (b - 48) in let more = digits_from v bs in cond (is_digit b && ltb v (2 ^ 32)) more number.Not
+unfoldable pub digits_from : ℕ → List ℕ → Option ℕ
+digits_from n [] = Some n
+digits_from n (b ∷ bs) = let v = 10 * n + (b - 48) in let more = digits_from v bs in cond (is_digit b && ltb v (2 ^ 32)) more None
 
 -- a number is digits alone, one at least, and below 2^32
-unfoldable pub number_in : List ℕ → Number
-number_in [] = number.Not
+unfoldable pub number_in : List ℕ → Option ℕ
+number_in [] = None
 number_in (b ∷ bs) = digits_from 0 (b ∷ bs)
 
 -- space, tab, carriage return

@@ -3,14 +3,7 @@ ghost use Rattle.std.specs.Prelude.{◌≡◌};
 ghost use Rattle.commands.specs.Lines.{rest_blank, field_in, line_in};
 
 use crate::words;
-use crate::words::{Kind, Number};
-
-// What stands next in a line: a number and the place past it, or anything else.
-#[derive(Clone, Copy)]
-pub enum Field {
-    Value(u64, usize),
-    Other,
-}
+use crate::words::Kind;
 
 // A line: a request's two blocks and serial, no word, or anything else.
 #[derive(Clone, Copy)]
@@ -30,19 +23,17 @@ fn is_rest_blank(line: &[u8], at: usize) -> bool
     words::leading(Kind::Blanks, &line[at..]) == line.len() - at
 }
 
-// The word that stands in a line from a place on, as a number.
-fn field_at(line: &[u8], at: usize) -> Field
+// The word that stands next in a line, as a number, and the place past it; none where anything else stands there.
+fn field_at(line: &[u8], at: usize) -> Option<(u64, usize)>
     ensures { result ≡ field_in line.now at }
 {
     if line.len() <= at {
-        return Field::Other;
+        return None;
     }
     let from = at + words::leading(Kind::Blanks, &line[at..]);
     let end = from + words::leading(Kind::Word, &line[from..]);
-    match words::number_in(&line[from..end]) {
-        Number::Is(n) => Field::Value(n, end),
-        Number::Not => Field::Other,
-    }
+    let n = words::number_in(&line[from..end])?;
+    Some((n, end))
 }
 
 // What a line says: three numbers, and nothing behind them.
@@ -52,13 +43,13 @@ pub fn line_of(text: &[u8]) -> Line
     if is_rest_blank(text, 0) {
         return Line::Blank;
     }
-    let Field::Value(from, past_from) = field_at(text, 0) else {
+    let Some((from, past_from)) = field_at(text, 0) else {
         return Line::Other;
     };
-    let Field::Value(to, past_to) = field_at(text, past_from) else {
+    let Some((to, past_to)) = field_at(text, past_from) else {
         return Line::Other;
     };
-    let Field::Value(serial, past_serial) = field_at(text, past_to) else {
+    let Some((serial, past_serial)) = field_at(text, past_to) else {
         return Line::Other;
     };
     if !is_rest_blank(text, past_serial) {

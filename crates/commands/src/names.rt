@@ -35,21 +35,10 @@ pub fn ones(b: usize) -> u8
 pub fn block(b: usize) -> [u8; 13]
     ensures { result ≡ block_name b }
 {
-    [
-        b'b',
-        b'l',
-        b'o',
-        b'c',
-        b'k',
-        b'-',
-        tens(b),
-        ones(b),
-        b'.',
-        b'd',
-        b'm',
-        b'a',
-        b'p',
-    ]
+    let mut n = *b"block-00.dmap";
+    n[6] = tens(b);
+    n[7] = ones(b);
+    n
 }
 
 // Block b's name and its new one, the commit's and its new one; zeros behind them.

@@ -6,13 +6,6 @@ ghost use Rattle.commands.specs.Viewers.{number_then, goes_on_with, viewers_in a
 
 use crate::{names, words};
 
-// The blocks that are viewers', bit b for block b; or that a text is no line of them.
-#[derive(Clone, Copy)]
-pub enum Viewers {
-    Bits(u32),
-    Wrong,
-}
-
 // The blocks that a basin may have.
 const BLOCKS: usize = 16;
 
@@ -56,30 +49,26 @@ fn goes_on(text: &[u8], at: usize, b: usize) -> bool
     is_number(&text[at..at + n], b, b' ')
 }
 
-// What the whole of the file says.
-pub fn viewers_in(text: &[u8]) -> Viewers
+// The blocks that are viewers' by the whole of the file, bit b for block b; none where it is no line of them.
+pub fn viewers_in(text: &[u8]) -> Option<u32>
     ensures { result ≡ viewers-of text.now }
 {
     if words::same(text, b"\n") {
-        return Viewers::Bits(0);
+        return Some(0);
     }
     // Those of the blocks before b that are viewers' are in `bits`, and their numbers stand before `at`.
     let mut bits: u32 = 0;
     let mut at = 0;
-    let mut b = 0;
-    while b < BLOCKS {
+    for b in 0..BLOCKS {
         if is_number(&text[at..], b, b'\n') {
-            return Viewers::Bits(bits + bit(b));
+            return Some(bits + bit(b));
         }
         if goes_on(text, at, b) {
             bits += bit(b);
             at += size(b);
-            b += 1;
-            continue;
         }
-        b += 1;
     }
-    Viewers::Wrong
+    None
 }
 
 // Whether the block with a number is a viewer's.

@@ -6,6 +6,7 @@ use memory::header::{BLOCKS, Header};
 use memory::kind;
 use oracle::Oracle;
 use system::say;
+use system::say::{Failure, Told};
 
 // Into how many pieces a block's volumes fall.
 fn show_pieces(n: u64) {
@@ -20,10 +21,7 @@ fn show_pieces(n: u64) {
 
 // A block's number, as its memory has it.
 fn number_in(block: &[u64]) -> u64 {
-    if Header::NUMBER < block.len() {
-        return block[Header::NUMBER];
-    }
-    0
+    block.get(Header::NUMBER).copied().unwrap_or(0)
 }
 
 // A block's darts, volumes and their pieces, critical faces and counter, and that it is a viewer's.
@@ -49,81 +47,50 @@ fn show_block(b: usize, block: &[u64], viewers: u32) {
 
 // A line for each block.
 pub fn show_blocks(mesh: &[u64], viewers: u32) {
-    let k = mesh.len() / Header::WORDS;
-    let mut b = 0;
-    while b < k {
-        show_block(b, mesh::part_of(mesh, b), viewers);
-        b += 1;
+    for (b, block) in mesh.chunks_exact(Header::WORDS).enumerate() {
+        show_block(b, block, viewers);
     }
 }
 
 // The first of the blocks that are refused by a number when those behind it are left out.
 fn first_refused(question: u32, mesh: &[u64], viewers: u32, scratch: &mut [u64]) -> usize {
     let k = mesh.len() / Header::WORDS;
-    let mut b = 0;
-    while b < k {
+    for b in 0..k {
         let end = b * Header::WORDS + Header::WORDS;
-        if answers::answer_number(checkmesh::check_mesh(&mesh[0..end], viewers, scratch))
-            == question
-        {
+        let answer = checkmesh::check_mesh(&mesh[0..end], viewers, scratch);
+        if answers::answer_number(answer) == question {
             return b;
         }
-        b += 1;
     }
-    b
+    k
 }
 
-// Whether the dart at place p has a kind, which is that of a third link and of the other block.
-fn has_kind_at(block: &[u64], p: usize, kind: u64) -> bool {
-    if p < Header::DARTS {
-        let at = p * 8 + 11;
-        if at < block.len() {
-            return block[at] == kind;
-        }
-    }
-    false
-}
-
-// Whether some dart of a block has a kind.
+// Whether some dart of a block has a kind, which is that of a third link and of the other block.
 fn has_kind(block: &[u64], kind: u64) -> bool {
-    // None before p has it.
-    let mut p: usize = 0;
-    while p < Header::DARTS {
-        if has_kind_at(block, p, kind) {
-            return true;
-        }
-        p += 1;
-    }
-    false
+    block
+        .iter()
+        .skip(11)
+        .step_by(8)
+        .take(Header::DARTS)
+        .any(|word| *word == kind)
 }
 
-// The first block that has a dart of a kind; how many there are where none has.
-fn first_with_kind(kind: u64, mesh: &[u64]) -> usize {
-    let k = mesh.len() / Header::WORDS;
-    let mut b = 0;
-    while b < k {
-        if has_kind(mesh::part_of(mesh, b), kind) {
-            return b;
-        }
-        b += 1;
-    }
-    b
+// The first block that has a dart of a kind.
+fn first_with_kind(kind: u64, mesh: &[u64]) -> Option<usize> {
+    mesh.chunks_exact(Header::WORDS)
+        .position(|block| has_kind(block, kind))
 }
 
 // Says which block is named by a critical dart and has no file, the first of them; whether there is one.
 fn say_missing(mesh: &[u64]) -> bool {
-    let k = mesh.len() / Header::WORDS;
-    let mut m = k;
-    while m < BLOCKS {
-        let b = first_with_kind(kind::critical_with(m as u64), mesh);
-        if b < k {
+    for m in mesh.len() / Header::WORDS..BLOCKS {
+        if let Some(b) = first_with_kind(kind::critical_with(m as u64), mesh) {
             say::text(&names::block(m));
             say::text(b" is missing, and ");
             say::text(&names::block(b));
             say::text(b" names it");
             return true;
         }
-        m += 1;
     }
     false
 }
@@ -149,40 +116,33 @@ fn say_where(question: u32, mesh: &[u64], viewers: u32, scratch: &mut [u64]) {
         }
         return;
     }
-    if question == 25 {
-        if say_missing(mesh) {
-            return;
-        }
+    if question == 25 && say_missing(mesh) {
+        return;
     }
     say::text(b"the blocks together");
 }
 
 // Whether the blocks are a sound mesh; where not, why.
-pub fn is_sound(mesh: &[u64], viewers: u32, scratch: &mut [u64]) -> bool {
+pub fn check_sound(mesh: &[u64], viewers: u32, scratch: &mut [u64]) -> Result<(), Failure> {
     match checkmesh::check_mesh(mesh, viewers, scratch) {
-        Answer::Served => true,
-        Answer::Refused(r) => {
+        Ok(()) => Ok(()),
+        Err(r) => {
             let question = answers::refusal_number(r);
             say::refused(question);
             say_where(question, mesh, viewers, scratch);
             say::text(b": ");
             say::meaning(question);
             say::text(b"\n");
-            false
+            Err(Failure::Refused)
         }
     }
 }
 
 // The counts of k blocks: what each has more than the mean, and the mean.
-fn show_counts(mean: u64, surplus: [i32; BLOCKS], k: usize) {
-    let mut i = 0;
-    while i < BLOCKS {
-        let w = nextmove::signed_word(surplus[i]);
-        if i < k {
-            say::text(b" ");
-            say::number(std::num::wrapping_add_u64(mean, w));
-        }
-        i += 1;
+fn show_counts(mean: u64, surplus: &[i32], k: usize) {
+    for x in surplus.iter().take(k) {
+        say::text(b" ");
+        say::number(mean.wrapping_add(nextmove::signed_word(*x)));
     }
 }
 
@@ -191,7 +151,7 @@ fn show_surplus(x: i32) {
     let w = nextmove::signed_word(x);
     if x < 0 {
         say::text(b" -");
-        say::number(std::num::wrapping_sub_u64(0, w));
+        say::number(w.wrapping_neg());
         return;
     }
     say::text(b" ");
@@ -199,14 +159,9 @@ fn show_surplus(x: i32) {
 }
 
 // The surpluses of k blocks.
-fn show_surpluses(surplus: [i32; BLOCKS], k: usize) {
-    let mut i = 0;
-    while i < BLOCKS {
-        let x = surplus[i];
-        if i < k {
-            show_surplus(x);
-        }
-        i += 1;
+fn show_surpluses(surplus: &[i32], k: usize) {
+    for x in surplus.iter().take(k) {
+        show_surplus(*x);
     }
 }
 
@@ -218,7 +173,7 @@ pub fn show_balance(
     viewers: u32,
     o: Oracle,
     scratch: &mut [u64],
-) -> bool {
+) -> Result<(), Told> {
     let b = nextmove::next_move(mesh, viewers, o, scratch);
     let next = b.next;
     let question = answers::move_number(next);
@@ -226,17 +181,17 @@ pub fn show_balance(
         say::refused(question);
         say::meaning(question);
         say::text(b"\n");
-        return false;
+        return Err(Told);
     }
     let k = mesh.len() / Header::WORDS;
     let mean = b.mean as u64;
     let surplus = b.surplus;
     say::text(when);
-    show_counts(mean, surplus, k);
+    show_counts(mean, &surplus, k);
     say::text(b"; mean ");
     say::number(mean);
     say::text(b", surpluses");
-    show_surpluses(surplus, k);
+    show_surpluses(&surplus, k);
     say::text(b"\n");
-    true
+    Ok(())
 }

@@ -1,89 +1,74 @@
 // Requests: read from lines, then played as one list, then told line by line.
+use commands::lines;
 use commands::lines::Line;
-use commands::words::Kind;
-use commands::{lines, words};
 use system::say;
 
-// What an input has: so many requests; a line that is none; a last line that is cut off; more requests than there is room for.
-#[derive(Clone, Copy)]
-pub enum Input {
-    Requests(usize),
-    Wrong(u64),
+// What is wrong with an input: a line that is no request; a last line that is cut off; more requests than there is room for.
+#[derive(Clone, Copy, PartialEq, Eq, Debug)]
+pub enum WrongInput {
+    Line(u64),
     Cut(u64),
     TooMany,
 }
 
-// How a line was taken: so many requests so far, or not.
+// Why a line was not taken: it is no request; there is no room for more.
 #[derive(Clone, Copy)]
-enum Taken {
-    Requests(usize),
+enum NotTaken {
     Wrong,
     Full,
 }
 
 // A line that begins with # is a note, and is passed over.
 fn is_note(line: &[u8]) -> bool {
-    if line.len() == 0 {
-        return false;
-    }
-    line[0] == b'#'
+    line.starts_with(b"#")
 }
 
 // How many requests there is room for.
 pub const MOST: usize = 16384;
 
-// Request n, at its place.
-fn put(requests: &mut [u64], n: usize, from: u64, to: u64, serial: u64) -> Taken {
-    if n < MOST {
-        if n < requests.len() / 3 {
-            let at = n * 3;
-            requests[at] = from;
-            requests[at + 1] = to;
-            requests[at + 2] = serial;
-            return Taken::Requests(n + 1);
-        }
+// Request n, at its place; how many there are then.
+fn put(requests: &mut [u64], n: usize, request: [u64; 3]) -> Result<usize, NotTaken> {
+    if n < MOST && n < requests.len() / 3 {
+        let at = n * 3;
+        requests[at..at + 3].copy_from_slice(&request);
+        return Ok(n + 1);
     }
-    Taken::Full
+    Err(NotTaken::Full)
 }
 
-// The request of a line, if it has one, behind n others.
-fn take_line(line: &[u8], requests: &mut [u64], n: usize) -> Taken {
+// The request of a line, if it has one, behind n others; how many there are then.
+fn take_line(line: &[u8], requests: &mut [u64], n: usize) -> Result<usize, NotTaken> {
     if is_note(line) {
-        return Taken::Requests(n);
+        return Ok(n);
     }
     match lines::line_of(line) {
-        Line::Request(from, to, serial) => put(requests, n, from, to, serial),
-        Line::Blank => Taken::Requests(n),
-        Line::Other => Taken::Wrong,
+        Line::Request(from, to, serial) => put(requests, n, [from, to, serial]),
+        Line::Blank => Ok(n),
+        Line::Other => Err(NotTaken::Wrong),
     }
 }
 
-// The requests of an input, three numbers each; every line of it ends with a line feed.
-pub fn take(input: &[u8], requests: &mut [u64]) -> Input {
-    // The lines before `at` are taken: so many, with n requests.
-    let mut at = 0;
+// The requests of an input, three numbers each; how many. Every line of it ends with a line feed.
+pub fn take(input: &[u8], requests: &mut [u64]) -> Result<usize, WrongInput> {
+    // Of the lines that are taken there are so many, with n requests.
     let mut number: u64 = 0;
     let mut n = 0;
-    while at < input.len() {
-        let end = at + words::leading(Kind::Line, &input[at..]);
-        number = std::num::wrapping_add_u64(number, 1);
-        if end == input.len() {
-            return Input::Cut(number);
-        }
-        match take_line(&input[at..end], requests, n) {
-            Taken::Requests(m) => {
-                n = m;
+    for whole in input.split_inclusive(|b| *b == b'\n') {
+        number = number.wrapping_add(1);
+        let Some(line) = whole.strip_suffix(b"\n") else {
+            return Err(WrongInput::Cut(number));
+        };
+        match take_line(line, requests, n) {
+            Ok(m) => n = m,
+            Err(NotTaken::Wrong) => {
+                return Err(WrongInput::Line(number));
             }
-            Taken::Wrong => {
-                return Input::Wrong(number);
-            }
-            Taken::Full => {
-                return Input::TooMany;
+            Err(NotTaken::Full) => {
+                return Err(WrongInput::TooMany);
             }
         }
-        at = end + 1;
     }
-    Input::Requests(n)
+    Ok(n)
 }
 
 // What became of a request.
@@ -100,13 +85,6 @@ fn show_outcome(outcome: u64) {
         return;
     }
     say::text(b"not finished\n");
-}
-
-fn outcome_at(outcomes: &[u64], i: usize) -> u64 {
-    if i < outcomes.len() {
-        return outcomes[i];
-    }
-    0
 }
 
 // A request with the number of its line, and what became of it.
@@ -130,39 +108,29 @@ fn show_line(line: &[u8], number: u64, i: usize, outcomes: &[u64]) -> usize {
     }
     match lines::line_of(line) {
         Line::Request(from, to, serial) => {
-            show_request(number, from, to, serial, outcome_at(outcomes, i));
-            std::num::wrapping_add_usize(i, 1)
+            let outcome = outcomes.get(i).copied().unwrap_or(0);
+            show_request(number, from, to, serial, outcome);
+            i.wrapping_add(1)
         }
-        Line::Blank => i,
-        Line::Other => i,
+        Line::Blank | Line::Other => i,
     }
 }
 
 // The requests of an input, each with its outcome.
 pub fn show(input: &[u8], outcomes: &[u64]) {
-    // The lines before `at` are told: so many, with i requests.
-    let mut at = 0;
+    // Of the lines that are told there are so many, with i requests.
     let mut number: u64 = 0;
     let mut i = 0;
-    while at < input.len() {
-        let end = at + words::leading(Kind::Line, &input[at..]);
-        number = std::num::wrapping_add_u64(number, 1);
-        i = show_line(&input[at..end], number, i, outcomes);
-        if end == input.len() {
-            return;
-        }
-        at = end + 1;
+    for line in input.split(|b| *b == b'\n') {
+        number = number.wrapping_add(1);
+        i = show_line(line, number, i, outcomes);
     }
 }
 
 // How many outcomes are a number.
 pub fn count(outcomes: &[u64], number: u64) -> u64 {
-    // So many of those before i.
-    let mut n: u64 = 0;
-    let mut i = 0;
-    while i < outcomes.len() {
-        n = std::num::wrapping_add_u64(n, (outcomes[i] == number) as u64);
-        i += 1;
-    }
-    n
+    outcomes
+        .iter()
+        .filter(|outcome| **outcome == number)
+        .count() as u64
 }

@@ -1,4 +1,5 @@
 -- Sums of points along a list, and the corners of a cell by place. Assumes nothing.
+use Rattle.std.specs.Prelude.{None, Some}
 use Rattle.std.proofs.Common.{◌≡◌, ℕ, ◌+◌, ◌<◌, true, false, List, [], ◌∷◌, ◌++◌, map, length, get_or, take, sym, refl, ap, ◌∙◌, add-one, length-take-le, take-suc}
 use lib.ListN.{length-map}
 use Rattle.model.specs.Values.{Point as Patterns}
@@ -14,7 +15,6 @@ use Rattle.cells.proofs.VolumeReady.{ends_ready}
 use Rattle.columns.proofs.Question.{image_passed}
 use Rattle.departure.specs.ByPlaces.{transfer_at}
 use Rattle.departure.proofs.LeavesWith.{transfer_law}
-use Rattle.corners.specs.declared.Mean.TheVariants as mean
 use Rattle.corners.specs.Corners.{corner_points, plus_point, over_number, sum_from, sum_of, mean_of, mean_in, Cornered}
 
 -- ONE MORE at the end of a sum
@@ -52,7 +52,7 @@ cornered m ok p h mk {out} {starts} {darts} o nb =
 -- THE MEAN
 pub mean_there : (m : List ℕ) (s : ℕ) → holds_block m ≡ true → held (block_in m).darts s ≡ true → {p : ℕ} → column m 0 p ≡ s
     → {firsts : List ℕ} {count : ℕ} → Cornered m p firsts count → {a r : Point} → a ≡ sum_of (map (λ q. (dart_in m q).point) (take count firsts)) → r ≡ over_number a count
-    → mean.Is r ≡ mean_in m s
+    → Some r ≡ mean_in m s
 unfolding mean_in mean_of
 mean_there m s ok there {p} here {firsts} {count} c {a} {r} e t =
     let ps : corner_points (block_in m).darts s ≡ map (λ q. (dart_in m q).point) (take count firsts) = ap (corner_points (block_in m).darts) (sym here) ∙ c.points in
@@ -60,12 +60,12 @@ mean_there m s ok there {p} here {firsts} {count} c {a} {r} e t =
     ap length ps ∙ length-map (take count firsts) (λ q. (dart_in m q).point) ∙ length-take-le count firsts c.size in
     let q : r ≡ over_number (sum_of (corner_points (block_in m).darts s)) (length (corner_points (block_in m).darts s)) =
     t ∙ ap (λ (x : Point). over_number x count) (e ∙ ap sum_of (sym ps)) ∙ ap (over_number (sum_of (corner_points (block_in m).darts s))) (sym long) in
-    rw (ok, there) (ap mean.Is q)
+    rw (ok, there) (ap Some q)
 
-pub mean_unsound : (m : List ℕ) (s : ℕ) → holds_block m ≡ false → mean.Not ≡ mean_in m s
+pub mean_unsound : (m : List ℕ) (s : ℕ) → holds_block m ≡ false → None ≡ mean_in m s
 unfolding mean_in
 mean_unsound m s e = rw e
 
-pub mean_nowhere : (m : List ℕ) (s : ℕ) → holds_block m ≡ true → held (block_in m).darts s ≡ false → mean.Not ≡ mean_in m s
+pub mean_nowhere : (m : List ℕ) (s : ℕ) → holds_block m ≡ true → held (block_in m).darts s ≡ false → None ≡ mean_in m s
 unfolding mean_in
 mean_nowhere m s ok e = rw (ok, e)

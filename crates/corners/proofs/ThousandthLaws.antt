@@ -1,8 +1,8 @@
 -- The thousandths of a float, by what the code tests one after the other. Assumes nothing.
+use Rattle.std.specs.Prelude.{None, Some}
 use Rattle.std.proofs.Common.{◌≡◌, ℕ, ◌<◌, ◌≤◌, true, false, sym, ap, ◌∙◌, le-leb}
 use borrow.Author.Tests.{lt-leb}
 use lib.Ieee.{Float, binary64, add, mul, neg, lt, to_unsigned, of_bits}
-use Rattle.corners.specs.declared.thousandths.Thousandths.TheVariants as thousandths
 use Rattle.corners.specs.Thousandths.{digit_count, scaled, thousandths_in, thousandths_of}
 
 abbrev low : Float
@@ -20,12 +20,12 @@ module _ (x : Float) {z : Float} (e : z ≡ digit_count x) where
   unfolding scaled
   same = ap made e
 
-  pub far_low : lt low (made z) ≡ false → thousandths.Far ≡ thousandths_of x
+  pub far_low : lt low (made z) ≡ false → None ≡ thousandths_of x
   unfolding thousandths_of
   far_low a = rw (sym (ap (lt low) same) ∙ a)
 
   module _ (a : lt low (made z) ≡ true) where
-    pub far_high : lt (made z) high ≡ false → thousandths.Far ≡ thousandths_of x
+    pub far_high : lt (made z) high ≡ false → None ≡ thousandths_of x
     unfolding thousandths_of
     far_high b = rw (sym (ap (lt low) same) ∙ a, sym (ap (λ (y : Float). lt y high) same) ∙ b)
 
@@ -34,10 +34,10 @@ module _ (x : Float) {z : Float} (e : z ≡ digit_count x) where
       unfolding thousandths_of
       told = rw (sym (ap (lt low) same) ∙ a, sym (ap (λ (y : Float). lt y high) same) ∙ b) (ap (thousandths_in x) (t ∙ ap (to_unsigned 64) same))
 
-      pub far_many : 1000000000000 < n → thousandths.Far ≡ thousandths_of x
+      pub far_many : 1000000000000 < n → None ≡ thousandths_of x
       unfolding thousandths_in
       far_many h = rw (lt-leb n 1000000000000 h) at told
 
-      pub are : n ≤ 1000000000000 → thousandths.Are (lt x (of_bits binary64 0)) n ≡ thousandths_of x
+      pub are : n ≤ 1000000000000 → Some ((lt x (of_bits binary64 0)), n) ≡ thousandths_of x
       unfolding thousandths_in
       are h = rw (le-leb n 1000000000000 h) at told

@@ -1,5 +1,5 @@
 -- The corners of a cell, which are its vertices, each once, in message order; and the mean of their points. Assumes nothing.
-use Rattle.std.specs.Prelude.{◌≡◌, ℕ, ◌<◌, ◌≤◌, cond, ◌&&◌, List, [], ◌∷◌, map, length, take, pos, slice_index}
+use Rattle.std.specs.Prelude.{◌≡◌, ℕ, ◌<◌, ◌≤◌, cond, ◌&&◌, List, [], ◌∷◌, map, length, take, pos, slice_index, None, Option, Some}
 use Rattle.std.specs.Float.{binary64}
 use Rattle.std.specs.Float.Ieee.{add, div, of_int}
 use Rattle.model.specs.Lists.{concat}
@@ -8,8 +8,6 @@ use Rattle.model.specs.Cells.{dart_at, next_in, opposite_in, faces_in, vertices,
 use Rattle.model.specs.Image.{column, dart_in, block_in, holds_block}
 use Rattle.memory.specs.declared.point.Point.{Point}
 use Rattle.memory.specs.Point.{point_of}
-use Rattle.corners.specs.declared.Mean.{Mean}
-use Rattle.corners.specs.declared.Mean.TheVariants as mean
 
 -- the points of the corners of the cell that has a serial
 unfoldable pub corner_points : List Dart → ℕ → List Patterns
@@ -33,8 +31,8 @@ unfoldable pub mean_of : List Dart → ℕ → Point
 mean_of ds s = over_number (sum_of (corner_points ds s)) (length (corner_points ds s))
 
 -- THE ANSWER, if the memory is a sound block's image that holds the serial
-unfoldable pub mean_in : List ℕ → ℕ → Mean
-mean_in m s = cond (holds_block m && held (block_in m).darts s) (mean.Is (mean_of (block_in m).darts s)) mean.Not
+unfoldable pub mean_in : List ℕ → ℕ → Option Point
+mean_in m s = cond (holds_block m && held (block_in m).darts s) (Some (mean_of (block_in m).darts s)) None
 
 -- BY PLACE: a dart of each corner of the cell of the dart at place p
 pub record Cornered (m : List ℕ) (p : ℕ) (firsts : List ℕ) (count : ℕ) : Type 0 where

@@ -1,11 +1,10 @@
 -- A small cell whose corners and their mean are computed, and floats in thousandths. Assumes nothing.
-use Rattle.std.specs.Prelude.{◌≡◌, ℕ, Bool, true, false, List, [], ◌∷◌, map, refl}
+use Rattle.std.specs.Prelude.{◌≡◌, ℕ, Bool, true, false, List, [], ◌∷◌, map, refl, None, Some}
 use Rattle.std.specs.Float.{binary64}
 use Rattle.std.specs.Float.Ieee.{of_bits, to_unsigned, of_int, round, add, mul, div, neg, lt}
 use Rattle.model.specs.Values.{free, Dart, Point as Patterns}
 use Rattle.model.specs.Everything.{everything}
 use Rattle.memory.specs.Point.{point_of}
-use Rattle.corners.specs.declared.thousandths.Thousandths.TheVariants as thousandths
 use Rattle.corners.specs.Corners.{corner_points, sum_from, mean_of}
 use Rattle.corners.specs.Thousandths.{digit_count, scaled, thousandths_in, thousandths_of}
 
@@ -39,7 +38,7 @@ abbrev near : List (ℕ × Bool × ℕ)
 near = (0x3ff8000000000000, false, 1500) ∷ (0xc000000000000000, true, 2000) ∷ (0x3fd5555555555555, false, 333) ∷ (0x3fe5555555555555, false, 667)
     ∷ (0, false, 0) ∷ (0xbf3a36e2eb1c432d, true, 0) ∷ (0x41cdcd6500000000, false, 1000000000000) ∷ []
 
-told : map (λ t. thousandths_of (of_bits binary64 t.0)) near ≡ map (λ t. thousandths.Are t.1 t.2) near
+told : map (λ t. thousandths_of (of_bits binary64 t.0)) near ≡ map (λ t. Some (t.1, t.2)) near
 unfolding digit_count scaled thousandths_in thousandths_of of_bits round add mul neg lt to_unsigned
 told = refl
 
@@ -47,6 +46,6 @@ told = refl
 abbrev distant : List ℕ
 distant = 0x41cdcd65000020c5 ∷ 0xc1ddcd6500000000 ∷ 0x7e37e43c8800759c ∷ 0x7ff0000000000000 ∷ 0xfff0000000000000 ∷ []
 
-not_told : map (λ w. thousandths_of (of_bits binary64 w)) distant ≡ map (λ w. thousandths.Far) distant
+not_told : map (λ w. thousandths_of (of_bits binary64 w)) distant ≡ map (λ w. None) distant
 unfolding digit_count scaled thousandths_in thousandths_of of_bits round add mul neg lt to_unsigned
 not_told = refl

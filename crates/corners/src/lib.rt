@@ -9,19 +9,11 @@ ghost use Rattle.selection.specs.Picked.{Walkable};
 ghost use Rattle.corners.specs.Corners.{plus_point, over_number, sum_of, Cornered, mean_in};
 
 use memory::header::Header;
-use memory::lookup::Found;
 use memory::point::Point;
 use memory::record::Place;
 use memory::{lookup, point};
 
 pub mod thousandths; // thousandths.rt: a float as whole thousandths
-
-// The mean of a cell's corners; or that no cell has the serial, or that the memory is no sound block's image.
-#[derive(Clone, Copy)]
-pub enum Mean {
-    Is(Point),
-    Not,
-}
 
 // The sum of two points, by coordinates.
 fn plus(a: Point, b: Point) -> Point
@@ -51,17 +43,14 @@ fn sum_at(block: &[u64], places: &[usize], count: usize) -> Point
     requires { Walkable block.now × (count ≤ length places.now) × (count ≤ room) × ((k : ℕ) → k < count → slice_index places.now k < slice_index block.now 2) }
     ensures { result ≡ sum_of (map (λ p. (dart_in block.now p).point) (take count places.now)) }
 {
-    // Those before i are added.
+    // Those before p are added.
     let mut sum = Point {
         x: 0.0,
         y: 0.0,
         z: 0.0,
     };
-    let mut i = 0;
-    while i < count {
-        let p = places[i];
-        sum = plus(sum, point::point_at(block, Place(p)));
-        i += 1;
+    for p in &places[..count] {
+        sum = plus(sum, point::point_at(block, Place(*p)));
     }
     sum
 }
@@ -91,19 +80,17 @@ fn corners_at(block: &[u64], p: Place, firsts: &mut [usize]) -> usize
     cells::vertex::number_vertices(block, n, &out, darts, &mut numbers, firsts)
 }
 
-// The mean of the corners of the cell that has a serial.
-pub fn mean_of(block: &[u64], serial: u64) -> Mean
+// The mean of the corners of the cell that has a serial; none where no cell has it, or the memory is no sound block's image.
+pub fn mean_of(block: &[u64], serial: u64) -> Option<Point>
     ensures { result ≡ mean_in block.now serial }
 {
     if !sound::is_sound(block) {
-        return Mean::Not;
+        return None;
     }
     let n = block[Header::COUNT] as usize;
-    let Found::At(place) = lookup::place_of(block, n, serial) else {
-        return Mean::Not;
-    };
+    let place = lookup::place_of(block, n, serial)?;
     let mut firsts = [0usize; Header::DARTS];
     let count = corners_at(block, place, &mut firsts);
     let sum = sum_at(block, &firsts, count);
-    Mean::Is(over(sum, count))
+    Some(over(sum, count))
 }

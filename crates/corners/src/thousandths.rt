@@ -2,14 +2,6 @@
 ghost use Rattle.std.specs.Prelude.{◌≡◌};
 ghost use Rattle.corners.specs.Thousandths.{digit_count, thousandths_of};
 
-// Whether it is below zero, and its size in thousandths, rounded; or that it is above 10^9 in size, or no number. Up to there a thousand
-// times the size is below 2^53, so that its whole part is that of the float product.
-#[derive(Clone, Copy)]
-pub enum Thousandths {
-    Are(bool, u64),
-    Far,
-}
-
 // A float's size.
 fn size(x: f64) -> f64
     ensures { result ≡ digit_count x }
@@ -20,8 +12,9 @@ fn size(x: f64) -> f64
     x
 }
 
-// The thousandths of a float.
-pub fn in_thousandths(x: f64) -> Thousandths
+// Whether a float is below zero, and its size in thousandths, rounded; none where that is above 10^9, or no number. Up to there a
+// thousand times the size is below 2^53, so that its whole part is that of the float product.
+pub fn in_thousandths(x: f64) -> Option<(bool, u64)>
     ensures { result ≡ thousandths_of x }
 {
     let y = size(x) * 1000.0 + 0.5;
@@ -29,9 +22,9 @@ pub fn in_thousandths(x: f64) -> Thousandths
         if y < 18446744073709551616.0 {
             let n = std::num::truncating_f64_to_u64(y);
             if n <= 1000000000000 {
-                return Thousandths::Are(x < 0.0, n);
+                return Some((x < 0.0, n));
             }
         }
     }
-    Thousandths::Far
+    None
 }

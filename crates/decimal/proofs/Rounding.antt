@@ -1,6 +1,7 @@
 -- What `round` gives is the nearest float: no finite float of the format is nearer to the exact fraction. Assumes nothing.
 -- In units of the format's smallest value the fraction is n / c, and the result is a multiple of 2^k units, the closest one. A float that is
 -- no multiple of 2^k units lies below 2^(prec - 1 + k) units, which is such a multiple and no further from n / c.
+use Rattle.std.specs.Prelude.{None, Some}
 use Rattle.std.proofs.Common.{◌≡◌, ℕ, zero, suc, ◌+◌, ◌-◌, ◌*◌, ◌/◌, ◌%◌, ◌^◌, ◌<◌, ◌≤◌, Bool, true, false, cond, not, ◌&&◌, T, eqb, ltb, leb, ◌⊎◌, ℤ, pos, negsuc, sym, refl, ap, ◌∙◌, subst, inl, inr, ⊎_elim, le_trans, le_of_eq, lt_of_lt_of_le, lt_of_le_of_lt, le_of_lt, mul-le-mul_right, mod-lt, zero-lt-suc, mul_assoc, suc-mul, mul_comm, div-lt_iff_lt-mul, add-mul, mul-le-mul_left, mul-lt-mul_of_pos_right, mul-pos, one-mul, div-add-mod', le-div_iff_mul-le, zero-mul, mul-one, mul_right_comm, not-le_of_lt, le_of_mul-le-mul_right, arith, lit≤, eqb→eq, ltb→lt, leb→le, pow_pos, pow_mono, pow-add, shl_lt, ltb-true, leb-true}
 use mathlib.Core.Bool.{beq}
 use Prim.Native.Nat.{compare, Ordering}
@@ -15,7 +16,6 @@ use lib.Ieee.Exact.{HasValue, units_val}
 use lib.Ieee.Nearest.{closest}
 use lib.Ieee.Order.{drop, kept}
 use Rattle.laws.proofs.Tests.{by_cases, lt_or_ge, and_left, and_right}
-use Rattle.decimal.specs.declared.Decimal.TheVariants as decimal
 use Rattle.decimal.specs.Decimal.{nearest_to}
 use Rattle.decimal.specs.Nearest.{distance, gap, Nearest}
 
@@ -211,7 +211,7 @@ decimal_small m up down h k =
     let few : m * 10 ^ 22 < 2 ^ 1023 = lt_of_lt_of_le (mul-lt-mul_of_pos_right h (ten 22)) (lit≤ tt) in
     lt_of_le_of_lt shift (mul-lt-mul_of_pos_right few (ten down))
 
-pub decimal_nearest : (minus : Bool) (m up down : ℕ) (x : Float) → nearest_to minus m up down ≡ decimal.Is x → Nearest binary64 minus (m * 10 ^ up) (10 ^ down) x
+pub decimal_nearest : (minus : Bool) (m up down : ℕ) (x : Float) → nearest_to minus m up down ≡ Some x → Nearest binary64 minus (m * 10 ^ up) (10 ^ down) x
 unfolding nearest_to
 decimal_nearest minus m up down x e = by_cases (ltb m (10 ^ 15) && (leb (up - down) 22 && leb (down - up) 22)) is not_is
   where
@@ -225,11 +225,11 @@ decimal_nearest minus m up down x e = by_cases (ltb m (10 ^ 15) && (leb (up - do
         (leb-true (up - down) 22 (and_left (leb (up - down) 22) (leb (down - up) 22) powers)))
         minus)
       where
-        inside : {y : Float} → decimal.Is y ≡ decimal.Is x → y ≡ x
+        inside : {y : Float} → Some y ≡ Some x → y ≡ x
         inside q = cc
 
     not_is : (ltb m (10 ^ 15) && (leb (up - down) 22 && leb (down - up) 22)) ≡ false → Nearest binary64 minus (m * 10 ^ up) (10 ^ down) x
     not_is t = absurd (apart (rw t at e))
       where
-        apart : decimal.Not ≡ decimal.Is x → ⊥
+        apart : None ≡ Some x → ⊥
         apart q = let z : ◌≡◌ {A = ℕ} 0 1 = cc in omega arith

@@ -1,12 +1,12 @@
 -- Decimal texts read piece by piece; a number from 10^15 on counts as 10^15, and is refused all the same. Assumes nothing.
-use Rattle.std.proofs.Common.{◌≡◌, ℕ, ◌+◌, ◌-◌, ◌*◌, ◌^◌, ◌<◌, ◌≤◌, Bool, true, false, ◌||◌, eqb, List, [], ◌∷◌, length, get_or, take, drop, sym, refl, ap, ◌∙◌, ⊎_elim, arith, le-ltb, lt-ltb, ne_eqb, le-leb}
+use Rattle.std.specs.Prelude.{None, Option, Some, MatchOption, IsSomeAnd}
+use Rattle.std.specs.Option.{option_map}
+use Rattle.std.proofs.Common.{◌≡◌, ℕ, ◌+◌, ◌-◌, ◌*◌, ◌^◌, ◌<◌, ◌≤◌, Bool, true, false, ◌||◌, eqb, List, [], ◌∷◌, length, get_or, take, drop, subst, sym, refl, ap, ◌∙◌, ⊎_elim, arith, le-ltb, lt-ltb, ne_eqb, le-leb}
 use borrow.Author.Tests.{lt-leb}
 use Rattle.laws.proofs.Tests.{by_cases, lt_or_ge}
 use Rattle.laws.proofs.Lists.{drop_at_cons, drop_end, rest_whole}
 use Rattle.model.specs.Text.{is_digit}
 use Rattle.commands.specs.Words.{number_in, leading}
-use Rattle.commands.specs.declared.words.Number.{Number}
-use Rattle.commands.specs.declared.words.Number.TheVariants as number
 use Rattle.commands.proofs.Scans.{leading_on, leading_stop, leading_end, leading_start}
 use Rattle.decimal.specs.declared.Digits.{Digits}
 use Rattle.decimal.specs.declared.Power.{Power}
@@ -80,9 +80,11 @@ pub reading_stop : {n v i : ℕ} {t : List ℕ} → Reading n t v i → i < leng
 unfolding number_at
 reading_stop {n} {v} {i} {t} r h e = stopped r (rw (drop_at_cons t i h, e)) (leading_stop is_digit t i h e)
 
-pub reading_end : {n v i : ℕ} {t : List ℕ} → Reading n t v i → length t ≤ i → ◌≡◌ {A = Digits} (record { value = v; count = i }) (digits_of n t)
+pub reading_end : {n v i : ℕ} {t : List ℕ} → Reading n t v i → i ≡ length t → ◌≡◌ {A = Digits} (record { value = v; count = length t }) (digits_of n t)
 unfolding number_at
-reading_end {n} {v} {i} {t} r h = stopped r (rw (drop_end t i h)) (leading_end is_digit t i h)
+reading_end {n} {v} {i} {t} r h =
+    subst (λ (k : ℕ). ◌≡◌ {A = Digits} (record { value = v; count = k }) (digits_of n t)) h
+    (stopped r (rw (drop_end t i (omega arith))) (leading_end is_digit t i (omega arith)))
 
 leading_within : (p : ℕ → Bool) (t : List ℕ) → leading p t ≤ length t
 unfolding leading
@@ -98,45 +100,51 @@ unfolding digits_of
 digits_capped n t {d} e = omega (arith, ap (λ (x : Digits). x.value) e, capped_le (number_at n t))
 
 -- THE EXPONENT
-pub short_long : (t : List ℕ) → 2 < length t → number.Not ≡ short_of t
+-- what `map` gives, as its contract says it
+pub mapped : (f : ℕ → Power) (o : Option ℕ) (r : Option Power) → MatchOption o (r ≡ None) (λ x. IsSomeAnd r (λ y. y ≡ f x)) → r ≡ option_map f o
+mapped f (Some x) (Some y) h = ap Some h
+mapped f (Some x) None h = absurd h
+mapped f None r h = h
+
+pub short_long : (t : List ℕ) → 2 < length t → None ≡ short_of t
 unfolding short_of
 short_long t h = rw (lt-leb (length t) 2 h)
 
-pub short_some : (t : List ℕ) {r : Number} → length t ≤ 2 → r ≡ number_in t → r ≡ short_of t
+pub short_some : (t : List ℕ) {r : Option ℕ} → length t ≤ 2 → r ≡ number_in t → r ≡ short_of t
 unfolding short_of
 short_some t h e = rw (le-leb (length t) 2 h) e
 
-pub signed_none : (t : List ℕ) → length t ≡ 0 → power.Not ≡ signed_of t
+pub signed_none : (t : List ℕ) → length t ≡ 0 → None ≡ signed_of t
 unfolding signed_of
 signed_none [] h = refl
 signed_none (b ∷ t) h = absurd (omega (arith, h))
 
-pub signed_minus : (t : List ℕ) {p : Power} → 0 < length t → get_or t 0 0 ≡ 45 → p ≡ down_by (short_of (take (length t - 1) (drop 1 t))) → p ≡ signed_of t
+pub signed_minus : (t : List ℕ) {p : Option Power} → 0 < length t → get_or t 0 0 ≡ 45 → p ≡ down_by (short_of (take (length t - 1) (drop 1 t))) → p ≡ signed_of t
 unfolding signed_of
 signed_minus [] h e f = absurd (omega arith)
 signed_minus (b ∷ t) h e f = rw (e, ← rest_whole (b ∷ t) 1) f
 
-pub signed_plus : (t : List ℕ) {p : Power} → 0 < length t → get_or t 0 0 ≡ 43 → p ≡ up_by (short_of (take (length t - 1) (drop 1 t))) → p ≡ signed_of t
+pub signed_plus : (t : List ℕ) {p : Option Power} → 0 < length t → get_or t 0 0 ≡ 43 → p ≡ up_by (short_of (take (length t - 1) (drop 1 t))) → p ≡ signed_of t
 unfolding signed_of
 signed_plus [] h e f = absurd (omega arith)
 signed_plus (b ∷ t) h e f = rw (e, ← rest_whole (b ∷ t) 1) f
 
-pub signed_bare : (t : List ℕ) {p : Power} → 0 < length t → (get_or t 0 0 ≡ 45 → ⊥) → (get_or t 0 0 ≡ 43 → ⊥) → p ≡ up_by (short_of t) → p ≡ signed_of t
+pub signed_bare : (t : List ℕ) {p : Option Power} → 0 < length t → (get_or t 0 0 ≡ 45 → ⊥) → (get_or t 0 0 ≡ 43 → ⊥) → p ≡ up_by (short_of t) → p ≡ signed_of t
 unfolding signed_of
 signed_bare [] h m l f = absurd (omega arith)
 signed_bare (b ∷ t) h m l f = rw (ne_eqb b 45 m, ne_eqb b 43 l) f
 
-pub exponent_none : (t : List ℕ) → length t ≡ 0 → power.Up 0 ≡ exponent_of t
+pub exponent_none : (t : List ℕ) → length t ≡ 0 → Some (power.Up 0) ≡ exponent_of t
 unfolding exponent_of
 exponent_none [] h = refl
 exponent_none (b ∷ t) h = absurd (omega (arith, h))
 
-pub exponent_some : (t : List ℕ) {p : Power} → 0 < length t → (eqb (get_or t 0 0) 101 || eqb (get_or t 0 0) 69) ≡ true → p ≡ signed_of (take (length t - 1) (drop 1 t)) → p ≡ exponent_of t
+pub exponent_some : (t : List ℕ) {p : Option Power} → 0 < length t → (eqb (get_or t 0 0) 101 || eqb (get_or t 0 0) 69) ≡ true → p ≡ signed_of (take (length t - 1) (drop 1 t)) → p ≡ exponent_of t
 unfolding exponent_of
 exponent_some [] h e f = absurd (omega arith)
 exponent_some (b ∷ t) h e f = rw (e, ← rest_whole (b ∷ t) 1) f
 
-pub exponent_wrong : (t : List ℕ) → 0 < length t → (eqb (get_or t 0 0) 101 || eqb (get_or t 0 0) 69) ≡ false → power.Not ≡ exponent_of t
+pub exponent_wrong : (t : List ℕ) → 0 < length t → (eqb (get_or t 0 0) 101 || eqb (get_or t 0 0) 69) ≡ false → None ≡ exponent_of t
 unfolding exponent_of
 exponent_wrong [] h e = absurd (omega arith)
 exponent_wrong (b ∷ t) h e = rw e refl

@@ -6,22 +6,14 @@
 // further, is refused.
 #![tactic(auto)]
 
-ghost use Rattle.std.specs.Prelude.{◌≡◌, ◌+◌, ◌*◌, ◌^◌, ◌<◌, ◌≤◌, true, false, if◌then◌else◌};
+ghost use Rattle.std.specs.Prelude.{◌≡◌, ◌+◌, ◌*◌, ◌^◌, ◌<◌, ◌≤◌, true, false, if◌then◌else◌, Some};
 ghost use Rattle.std.specs.Float.{binary64};
 ghost use Rattle.std.specs.Float.Ieee.{neg, round};
 ghost use Rattle.std.specs.Float.Ieee.Exact.{HasValue};
-ghost use Rattle.decimal.specs.Decimal.{capped, digits_of, up_by, down_by, short_of, signed_of, exponent_of};
+ghost use Rattle.decimal.specs.Decimal.{capped, digits_of, short_of, signed_of, exponent_of};
 ghost use Rattle.decimal.specs.Decimal.{nearest_to, scaled_by, fraction_of, behind_of, unsigned_of, decimal_of};
 
 use commands::words;
-use commands::words::Number;
-
-// A text's float, or that it is no decimal that is read exactly.
-#[derive(Clone, Copy)]
-pub enum Decimal {
-    Is(f64),
-    Not,
-}
 
 // The digits at the start of a text: the number that they give behind others, 10^15 where it is more, and how many there are.
 #[derive(Clone, Copy)]
@@ -35,7 +27,6 @@ struct Digits {
 enum Power {
     Up(u64),
     Down(u64),
-    Not,
 }
 
 // A number with one more digit, 10^15 where it is more.
@@ -57,76 +48,58 @@ fn digits_in(n: u64, text: &[u8]) -> Digits
 {
     // Those before i are digits, and give `value` behind n.
     let mut value = n;
-    let mut i = 0;
-    while i < text.len() {
+    for i in 0..text.len() {
         let b = text[i];
         if !words::is_digit(b) {
             return Digits { value, count: i };
         }
         value = joined(value, words::digit(b));
-        i += 1;
     }
-    Digits { value, count: i }
-}
-
-// A power of ten upward by a number, and downward.
-fn upward(n: Number) -> Power
-    ensures { result ≡ up_by n }
-{
-    match n {
-        Number::Is(k) => Power::Up(k),
-        Number::Not => Power::Not,
-    }
-}
-
-fn downward(n: Number) -> Power
-    ensures { result ≡ down_by n }
-{
-    match n {
-        Number::Is(k) => Power::Down(k),
-        Number::Not => Power::Not,
+    Digits {
+        value,
+        count: text.len(),
     }
 }
 
 // The number that one or two digits are.
-fn short_in(text: &[u8]) -> Number
+fn short_in(text: &[u8]) -> Option<u64>
     ensures { result ≡ short_of text.now }
 {
     if 2 < text.len() {
-        return Number::Not;
+        return None;
     }
     words::number_in(text)
 }
 
 // The power that a number with an optional sign gives.
-fn signed_in(text: &[u8]) -> Power
+fn signed_in(text: &[u8]) -> Option<Power>
     ensures { result ≡ signed_of text.now }
 {
     if text.len() == 0 {
-        return Power::Not;
+        return None;
     }
     let sign = text[0];
     if sign == b'-' {
-        return downward(short_in(&text[1..]));
+        return short_in(&text[1..]).map(Power::Down);
     }
     if sign == b'+' {
-        return upward(short_in(&text[1..]));
+        return short_in(&text[1..]).map(Power::Up);
     }
-    upward(short_in(text))
+    short_in(text).map(Power::Up)
 }
 
 // The power that the rest of a text gives: an exponent, or nothing.
-fn exponent_in(text: &[u8]) -> Power
+fn exponent_in(text: &[u8]) -> Option<Power>
     ensures { result ≡ exponent_of text.now }
 {
     if text.len() == 0 {
-        return Power::Up(0);
+        return Some(Power::Up(0));
     }
     let e = text[0];
     if (e == b'e') | (e == b'E') {
         return signed_in(&text[1..]);
     }
-    Power::Not
+    None
 }
 
 // Ten to the k, exactly.
@@ -136,10 +109,8 @@ fn ten_to(k: u64) -> f64
 {
     // The power is ten to the i.
     let mut power = 1.0;
-    let mut i = 0u64;
-    while i < k {
+    for i in 0..k {
         power = power * 10.0;
-        i += 1;
     }
     power
 }
@@ -171,44 +142,43 @@ fn signed(minus: bool, x: f64) -> f64
 }
 
 // The float nearest to m × 10^up / 10^down, where one operation gives it.
-fn nearest(minus: bool, m: u64, up: u64, down: u64) -> Decimal
+fn nearest(minus: bool, m: u64, up: u64, down: u64) -> Option<f64>
     ensures { result ≡ nearest_to minus m up down }
 {
     if 1000000000000000 <= m {
-        return Decimal::Not;
+        return None;
     }
     if down <= up {
         let k = up - down;
         if 22 < k {
-            return Decimal::Not;
+            return None;
         }
-        return Decimal::Is(signed(minus, times(m, k)));
+        return Some(signed(minus, times(m, k)));
     }
     let k = down - up;
     if 22 < k {
-        return Decimal::Not;
+        return None;
     }
-    Decimal::Is(signed(minus, over(m, k)))
+    Some(signed(minus, over(m, k)))
 }
 
 // The float of m with so many places behind the point, and a power of ten.
-fn scaled(minus: bool, m: u64, places: u64, power: Power) -> Decimal
-    ensures { result ≡ scaled_by minus m places power }
+fn scaled(minus: bool, m: u64, places: u64, power: Power) -> Option<f64>
+    ensures { result ≡ scaled_by minus m places (Some power) }
 {
     match power {
         Power::Up(k) => nearest(minus, m, k, places),
         Power::Down(k) => {
             if (22 < places) | (22 < k) {
-                return Decimal::Not;
+                return None;
             }
             nearest(minus, m, 0, places + k)
         }
-        Power::Not => Decimal::Not,
     }
 }
 
 // What stands behind the point: digits, and perhaps an exponent. The digits before the point gave n.
-fn fraction(minus: bool, n: u64, text: &[u8]) -> Decimal
+fn fraction(minus: bool, n: u64, text: &[u8]) -> Option<f64>
     requires { n ≤ 10 ^ 15 }
     ensures { result ≡ fraction_of minus n text.now }
 {
@@ -216,13 +186,14 @@ fn fraction(minus: bool, n: u64, text: &[u8]) -> Decimal
     let m = d.value;
     let places = d.count;
     if places == 0 {
-        return Decimal::Not;
+        return None;
     }
-    scaled(minus, m, places as u64, exponent_in(&text[places..]))
+    let power = exponent_in(&text[places..])?;
+    scaled(minus, m, places as u64, power)
 }
 
 // What stands behind the first digits, which gave n: perhaps a point with digits, and perhaps an exponent.
-fn behind(minus: bool, n: u64, text: &[u8]) -> Decimal
+fn behind(minus: bool, n: u64, text: &[u8]) -> Option<f64>
     requires { n ≤ 10 ^ 15 }
     ensures { result ≡ behind_of minus n text.now }
 {
@@ -232,28 +203,29 @@ fn behind(minus: bool, n: u64, text: &[u8]) -> Decimal
     if text[0] == b'.' {
         return fraction(minus, n, &text[1..]);
     }
-    scaled(minus, n, 0, exponent_in(text))
+    let power = exponent_in(text)?;
+    scaled(minus, n, 0, power)
 }
 
 // A text without its sign.
-fn unsigned(minus: bool, text: &[u8]) -> Decimal
+fn unsigned(minus: bool, text: &[u8]) -> Option<f64>
     ensures { result ≡ unsigned_of minus text.now }
 {
     let d = digits_in(0, text);
     let n = d.value;
     let count = d.count;
     if count == 0 {
-        return Decimal::Not;
+        return None;
     }
     behind(minus, n, &text[count..])
 }
 
-// The float nearest to the decimal that a text is. A minus before a zero gives −0.
-pub fn decimal_in(text: &[u8]) -> Decimal
+// The float nearest to the decimal that a text is, where it is one that is read exactly. A minus before a zero gives −0.
+pub fn decimal_in(text: &[u8]) -> Option<f64>
     ensures { result ≡ decimal_of text.now }
 {
     if text.len() == 0 {
-        return Decimal::Not;
+        return None;
     }
     if text[0] == b'-' {
         return unsigned(true, &text[1..]);

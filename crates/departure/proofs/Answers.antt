@@ -1,4 +1,5 @@
 -- Questions 10 to 14 one by one: what each answer, by places, says of the block that the memory holds. Assumes nothing.
+use Rattle.std.specs.Prelude.{None, Option, Some}
 use mathlib.Core.Path.{◌≡◌, sym, ◌∙◌, ap}
 use mathlib.Core.Bool.{true, false, not}
 use mathlib.Core.List.{List}
@@ -17,8 +18,6 @@ use Rattle.model.specs.Departure.{is_sewn_into}
 use Rattle.model.specs.Links.{pairs_once, vertex_pairs}
 use Rattle.memory.specs.Lookup.{place_in}
 use Rattle.memory.specs.declared.record.Place.{Place}
-use Rattle.memory.specs.declared.lookup.Found.{Found}
-use Rattle.memory.specs.declared.lookup.Found.TheVariants.{At, Nothing}
 use Rattle.memory.proofs.Lookups.{place_at, held_at, held_nothing}
 use Rattle.cells.specs.Places.{InOrder, Marked, Numbered, WholeCells, ends_once, places_in, sewn_in, volume_of}
 use Rattle.cells.proofs.Sited.{Sited, darts_in}
@@ -48,11 +47,11 @@ module _ (out : List ℕ) (darts : ℕ) {n : ℕ} {nx op : ℕ → ℕ} (w : Who
       let r = w.below (get_or (take darts out) k 0) (getD_in (take darts out) k (omega (arith, taken))) in
       omega (arith, get_or-take darts out k 0 j)
 
-module _ (m : List ℕ) (s : ℕ) {look : Found} (ten : look ≡ place_in (column m 0) (count_in m) s) where
-  pub held_no : look ≡ Nothing → held (darts_in m) s ≡ false
+module _ (m : List ℕ) (s : ℕ) {look : Option Place} (ten : look ≡ place_in (column m 0) (count_in m) s) where
+  pub held_no : look ≡ None → held (darts_in m) s ≡ false
   held_no e = held_nothing m s (sym ten ∙ e)
 
-  pub held_yes : Sited m → {at : Place} → look ≡ At at → HeldAt m s at.0
+  pub held_yes : Sited m → {at : Place} → look ≡ Some at → HeldAt m s at.0
   held_yes site e =
       let found = sym ten ∙ e in
       let there = place_at (column m 0) (count_in m) s found in

@@ -1,4 +1,5 @@
 -- Questions 9 to 14 in a row: the first no, or the last yes and what the arrays then hold. Assumes nothing.
+use Rattle.std.specs.Prelude.{Err, Ok, Result}
 use mathlib.Core.Path.{◌≡◌, refl, sym, ◌∙◌, ap}
 use mathlib.Core.Bool.{Bool, true, false, not, ◌&&◌}
 use mathlib.Core.List.{List}
@@ -23,10 +24,10 @@ use Rattle.cells.proofs.Sited.{Sited, darts_in}
 use Rattle.cells.proofs.StartLaws.{in_order_few, question_14}
 use Rattle.theory.proofs.ImageLaws.{image_is, parts_of, ranges_of, Ranges}
 use Rattle.departure.specs.Asked.{VolumeDeparts, Leaves, VolumeLeaves, faces_at, volume_checks}
-use Rattle.departure.specs.declared.Leaving.{Leaving}
-use Rattle.departure.specs.declared.Leaving.TheVariants.{Volume, Refused}
 use Rattle.departure.specs.Questions.{VolumeWalked, PairsAsked, Unpaired, sewn_away}
 use Rattle.departure.proofs.Answers.{HeldAt, within_no, within_yes, as_many, sewn_answer, pairs_told}
+use Rattle.departure.specs.declared.Counts.{Counts}
+use Rattle.answers.specs.declared.Refusal.{Refusal}
 
 -- what a sound block's header says
 pub ranges_in : (m : List ℕ) → holds_block m ≡ true → Ranges rack (block_in m)
@@ -58,16 +59,16 @@ module _ (most : ℕ) (m : List ℕ) (j s : ℕ) where
       unfolding departure_checks answered asked first_no
       rest_asked = rw (sym h.serial_is) (rw (is-9, rw (sym h.serial_is) at h.is_held) refl)
 
-      pub leaves_told : (r : Leaving) (marks out starts numbers firsts : List ℕ) → VolumeLeaves most m p r marks out starts numbers firsts → Leaves most m j s r marks out starts numbers firsts
+      pub leaves_told : (r : Result Counts Refusal) (marks out starts numbers firsts : List ℕ) → VolumeLeaves most m p r marks out starts numbers firsts → Leaves most m j s r marks out starts numbers firsts
       unfolding VolumeLeaves
-      leaves_told (Volume c) marks out starts numbers firsts v = record {
+      leaves_told (Ok c) marks out starts numbers firsts v = record {
         asked = v.asked ∙ rest_asked;
         survey = v.survey;
         serial_is = ap (column m 0) v.place_is ∙ h.serial_is;
         to_block = leb-true j 15 (and_left (leb j 15) _ is-9);
         counter_fits = v.counter_fits;
       }
-      leaves_told (Refused q) marks out starts numbers firsts v = v ∙ rest_asked
+      leaves_told (Err q) marks out starts numbers firsts v = v ∙ rest_asked
 
 -- of 11 to 14
 abbrev VolumeNo : ℕ → List ℕ → ℕ → ℕ → Type 0

@@ -1,5 +1,5 @@
 -- What questions 9 to 14 give on a block's memory: the first no, or the arrays of the volume that leaves. Assumes nothing.
-use Rattle.std.specs.Prelude.{◌≡◌, List, ℕ, ◌+◌, ◌≤◌, ◌<◌, ◌^◌, length, get_or, take, drop}
+use Rattle.std.specs.Prelude.{◌≡◌, List, ℕ, ◌+◌, ◌≤◌, ◌<◌, ◌^◌, length, get_or, take, drop, Err, Ok, Result}
 use Rattle.model.specs.Values.{message_darts, last_block}
 use Rattle.model.specs.Lists.{keep, Check}
 use Rattle.model.specs.Cells.{faces, start_of}
@@ -9,8 +9,7 @@ use Rattle.model.specs.Calls.{served, refused}
 use Rattle.answers.specs.Answers.{answered, question}
 use Rattle.cells.specs.Places.{Clear, InOrder, Marked, Numbered, marked, sewn_out, volume_of}
 use Rattle.departure.specs.declared.Counts.{Counts}
-use Rattle.departure.specs.declared.Leaving.{Leaving}
-use Rattle.departure.specs.declared.Leaving.TheVariants.{Volume, Refused}
+use Rattle.answers.specs.declared.Refusal.{Refusal}
 
 -- the faces of the marked volume as places, in message order
 abbrev pub faces_at : List ℕ → List ℕ → List (List ℕ)
@@ -38,9 +37,9 @@ pub record VolumeDeparts (most : ℕ) (m : List ℕ) (p : ℕ) (c : Counts) (mar
   pub place_is : survey.place ≡ p
   pub counter_fits : get_or m 1 0 + c.sewn < 2 ^ 32
 
-unfoldable pub VolumeLeaves : ℕ → List ℕ → ℕ → Leaving → List ℕ → List ℕ → List ℕ → List ℕ → List ℕ → Type 0
-VolumeLeaves most m p (Volume c) marks out starts numbers firsts = VolumeDeparts most m p c marks out starts numbers firsts
-VolumeLeaves most m p (Refused r) marks out starts numbers firsts = refused (question r) ≡ answered (volume_checks most m p)
+unfoldable pub VolumeLeaves : ℕ → List ℕ → ℕ → Result Counts Refusal → List ℕ → List ℕ → List ℕ → List ℕ → List ℕ → Type 0
+VolumeLeaves most m p (Ok c) marks out starts numbers firsts = VolumeDeparts most m p c marks out starts numbers firsts
+VolumeLeaves most m p (Err r) marks out starts numbers firsts = refused (question r) ≡ answered (volume_checks most m p)
 
 -- each answer is yes: the volume of the dart with serial s, of at most `most` darts, may go to block j
 pub record Departs (most : ℕ) (m : List ℕ) (j s : ℕ) (c : Counts) (marks out starts numbers firsts : List ℕ) : Type 0 where
@@ -50,11 +49,11 @@ pub record Departs (most : ℕ) (m : List ℕ) (j s : ℕ) (c : Counts) (marks o
   pub to_block : j ≤ last_block
   pub counter_fits : get_or m 1 0 + c.sewn < 2 ^ 32
 
-abbrev pub Leaves : ℕ → List ℕ → ℕ → ℕ → Leaving → List ℕ → List ℕ → List ℕ → List ℕ → List ℕ → Type 0
-Leaves most m j s (Volume c) marks out starts numbers firsts = Departs most m j s c marks out starts numbers firsts
-Leaves most m j s (Refused r) marks out starts numbers firsts = refused (question r) ≡ answered (departure_checks most (block_in m) j s)
+abbrev pub Leaves : ℕ → List ℕ → ℕ → ℕ → Result Counts Refusal → List ℕ → List ℕ → List ℕ → List ℕ → List ℕ → Type 0
+Leaves most m j s (Ok c) marks out starts numbers firsts = Departs most m j s c marks out starts numbers firsts
+Leaves most m j s (Err r) marks out starts numbers firsts = refused (question r) ≡ answered (departure_checks most (block_in m) j s)
 
 -- a volume that does not leave is marked nowhere
-abbrev pub Forgotten : Leaving → List ℕ → List ℕ → Type 0
-Forgotten (Volume c) marks seen = Unit {0}
-Forgotten (Refused r) marks seen = Clear marks × Clear seen
+abbrev pub Forgotten : Result Counts Refusal → List ℕ → List ℕ → Type 0
+Forgotten (Ok c) marks seen = Unit {0}
+Forgotten (Err r) marks seen = Clear marks × Clear seen

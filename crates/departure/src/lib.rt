@@ -10,10 +10,8 @@ ghost use Rattle.memory.specs.Header.{limits_of};
 ghost use Rattle.cells.specs.Places.{Clear, Marked};
 ghost use Rattle.departure.specs.Asked.{Forgotten, Leaves, VolumeLeaves};
 
-use crate::questions::{Pairs, Sewn, Walk};
 use answers::Refusal;
 use memory::header::{Header, Limits};
-use memory::lookup::Found;
 use memory::record::Place;
 
 // How many darts, faces and vertices a volume has, and how many of its faces are sewn to another volume.
@@ -23,13 +21,6 @@ pub struct Counts {
     pub faces: usize,
     pub vertices: usize,
     pub sewn: usize,
-}
-
-// Whether a volume may leave: what it has, or the first question whose answer is no.
-#[derive(Clone, Copy)]
-pub enum Leaving {
-    Volume(Counts),
-    Refused(Refusal),
 }
 
 // Takes the marks of a volume that does not leave away, at its own darts alone.
@@ -56,7 +47,7 @@ pub fn volume_leaves(
     numbers: &mut [usize],
     firsts: &mut [usize],
     colours: &mut [usize],
-) -> Leaving
+) -> Result<Counts, Refusal>
     requires block_value { (holds_block block.now ≡ true) × (limits.volume ≤ message_darts) × (place.0 < count_in block.now) }
     requires block_in_bounds { (count_in block.now ≤ length marks.old) × Clear marks.old × (count_in block.now ≤ length seen.old) × Clear seen.old }
     requires block_in_bounds_2 { (count_in block.now ≤ length out.old) × (count_in block.now ≤ length starts.old) × (count_in block.now ≤ length numbers.old) }
@@ -64,9 +55,8 @@ pub fn volume_leaves(
     ensures answer { VolumeLeaves (limits_of limits).volume_darts block.now place.0 result marks.new out.new starts.new numbers.new firsts.new }
     ensures clear { Forgotten result marks.new seen.new }
 {
-    let Walk::Volume(size) = questions::volume_within(block, place, limits.volume, out, marks)
-    else {
-        return Leaving::Refused(Refusal::VolumeTooLarge);
+    let Some(size) = questions::volume_within(block, place, limits.volume, out, marks) else {
+        return Err(Refusal::VolumeTooLarge);
     };
     let n = block[Header::COUNT] as usize;
     let order = cells::order::message_order(block, n, size, marks, out, starts, seen);
@@ -74,18 +64,17 @@ pub fn volume_leaves(
     let faces = order.faces;
     if !questions::none_sewn_within(block, marks, out, darts) {
         unmark_both(out, darts, marks, seen);
-        return Leaving::Refused(Refusal::SewnWithin);
+        return Err(Refusal::SewnWithin);
     }
-    let Pairs::Once(vertices) = questions::pairs_once(block, out, darts, numbers, firsts, colours)
-    else {
+    let Some(vertices) = questions::pairs_once(block, out, darts, numbers, firsts, colours) else {
         unmark_both(out, darts, marks, seen);
-        return Leaving::Refused(Refusal::VertexPairs);
+        return Err(Refusal::VertexPairs);
     };
-    let Sewn::Faces(sewn) = questions::counter_fits(block, marks, out, starts, darts, faces) else {
+    let Some(sewn) = questions::counter_fits(block, marks, out, starts, darts, faces) else {
         unmark_both(out, darts, marks, seen);
-        return Leaving::Refused(Refusal::CounterFull);
+        return Err(Refusal::CounterFull);
     };
-    Leaving::Volume(Counts {
+    Ok(Counts {
         darts,
         faces,
         vertices,
@@ -93,7 +82,7 @@ pub fn volume_leaves(
     })
 }
 
-// Whether the volume of the dart with this serial may go to another block: 9 to 14. What the arrays hold then is what `volume_leaves` says.
+// What the volume of the dart with this serial has, if it may go to another block: 9 to 14, or the first whose answer is no. What the arrays hold then is what `volume_leaves` says.
 pub fn leaves(
     block: &[u64],
     limits: Limits,
@@ -106,7 +95,7 @@ pub fn leaves(
     numbers: &mut [usize],
     firsts: &mut [usize],
     colours: &mut [usize],
-) -> Leaving
+) -> Result<Counts, Refusal>
     requires block_value { (holds_block block.now ≡ true) × (limits.volume ≤ message_darts) }
     requires block_in_bounds { (count_in block.now ≤ length marks.old) × Clear marks.old × (count_in block.now ≤ length seen.old) × Clear seen.old }
     requires block_in_bounds_2 { (count_in block.now ≤ length out.old) × (count_in block.now ≤ length starts.old) × (count_in block.now ≤ length numbers.old) }
@@ -115,10 +104,10 @@ pub fn leaves(
     ensures clear { Forgotten result marks.new seen.new }
 {
     if !questions::destination_right(block, to) {
-        return Leaving::Refused(Refusal::Destination);
+        return Err(Refusal::Destination);
     }
-    let Found::At(place) = questions::place_held(block, serial) else {
-        return Leaving::Refused(Refusal::SerialNotHeld);
+    let Some(place) = questions::place_held(block, serial) else {
+        return Err(Refusal::SerialNotHeld);
     };
     volume_leaves(
         block, limits, place, marks, out, starts, seen, numbers, firsts, colours,

@@ -11,29 +11,7 @@ ghost use Rattle.departure.specs.Questions.{WalkedWithin, PairsOnce, CounterFits
 
 use memory::header::Header;
 use memory::lookup;
-use memory::lookup::Found;
 use memory::record::Place;
-
-// A volume that was walked, and how many darts it has.
-#[derive(Clone, Copy)]
-pub enum Walk {
-    Volume(usize),
-    TooLarge,
-}
-
-// How many vertices a volume has whose edges all have other ends.
-#[derive(Clone, Copy)]
-pub enum Pairs {
-    Once(usize),
-    Repeated,
-}
-
-// How many faces of a volume are sewn to another, if the counter has numbers for them.
-#[derive(Clone, Copy)]
-pub enum Sewn {
-    Faces(usize),
-    CounterFull,
-}
 
 // 9: is the destination the number of a block, and not of this one?
 pub fn destination_right(block: &[u64], to: u64) -> bool
@@ -44,7 +22,7 @@ pub fn destination_right(block: &[u64], to: u64) -> bool
 }
 
 // 10: does the block hold a dart with this serial? The place of it.
-pub fn place_held(block: &[u64], serial: u64) -> Found
+pub fn place_held(block: &[u64], serial: u64) -> Option<Place>
     requires { (words_for (count_in block.now) ≤ length block.now) × Ascending (count_in block.now) (column block.now 0) }
     ensures { result ≡ place_in (column block.now 0) (count_in block.now) serial }
 {
@@ -53,14 +31,14 @@ pub fn place_held(block: &[u64], serial: u64) -> Found
 }
 
 // 11: has the volume of the dart at this place at most `most` darts? They are listed in `out`, as the walk met them, and marked by place;
-// after a no nothing is marked, at a cost that goes by the volume's size.
+// after a no nothing is marked, at a cost that goes by the volume's size. How many there are.
 pub fn volume_within(
     block: &[u64],
     place: Place,
     most: usize,
     out: &mut [usize],
     marks: &mut [u8],
-) -> Walk
+) -> Option<usize>
     requires linked { Linked block.now (count_in block.now) × (place.0 < count_in block.now) }
     requires block_in_bounds { (count_in block.now ≤ length out.old) × (count_in block.now ≤ length marks.old) × Clear marks.old }
     ensures { WalkedWithin most block.now place.0 result marks.new out.new }
@@ -69,9 +47,9 @@ pub fn volume_within(
     let size = cells::walk::volume(block, n, place, out, marks);
     if most < size {
         cells::reset::unmark(out, size, marks);
-        return Walk::TooLarge;
+        return None;
     }
-    Walk::Volume(size)
+    Some(size)
 }
 
 // 12: is none of these darts sewn to a marked one?
@@ -85,7 +63,7 @@ pub fn none_sewn_within(block: &[u64], marks: &[u8], out: &[usize], darts: usize
 }
 
 // 13: has no edge of these darts one vertex for both ends, or the two of another? Their vertices are numbered: `numbers` has each dart's,
-// by place, and `firsts` a dart of each.
+// by place, and `firsts` a dart of each. How many there are.
 pub fn pairs_once(
     block: &[u64],
     out: &[usize],
@@ -93,7 +71,7 @@ pub fn pairs_once(
     numbers: &mut [usize],
     firsts: &mut [usize],
     colours: &mut [usize],
-) -> Pairs
+) -> Option<usize>
     requires linked { Linked block.now (count_in block.now) × WholeCells (count_in block.now) (column block.now 1) (column block.now 2) (take darts out.now) × (darts ≤ length out.now) }
     requires block_in_bounds { (count_in block.now ≤ length numbers.old) × (darts ≤ length firsts.old) × (darts ≤ length colours.old) }
     ensures { PairsOnce block.now out.now darts result numbers.new firsts.new }
@@ -101,12 +79,12 @@ pub fn pairs_once(
     let n = block[Header::COUNT] as usize;
     let vertices = cells::vertex::number_vertices(block, n, out, darts, numbers, firsts);
     if !cells::pairs::pairs_once(block, n, numbers, firsts, vertices, colours) {
-        return Pairs::Repeated;
+        return None;
     }
-    Pairs::Once(vertices)
+    Some(vertices)
 }
 
-// 14: does the counter stay a number below 2^32, with one more for each face of the marked volume that is sewn to another?
+// 14: does the counter stay a number below 2^32, with one more for each face of the marked volume that is sewn to another? How many are.
 pub fn counter_fits(
     block: &[u64],
     marks: &[u8],
@@ -114,7 +92,7 @@ pub fn counter_fits(
     starts: &[usize],
     darts: usize,
     faces: usize,
-) -> Sewn
+) -> Option<usize>
     requires linked { Linked block.now (count_in block.now) × (count_in block.now ≤ length marks.now) × (get_or block.now 1 0 < 2 ^ 32) }
     requires in_order { InOrder (faces_at block.now marks.now) out.now starts.now darts faces }
     ensures { CounterFits block.now marks.now result }
@@ -122,7 +100,7 @@ pub fn counter_fits(
     let n = block[Header::COUNT] as usize;
     let sewn = cells::sewn::count_sewn(block, n, marks, out, starts, darts, faces);
     if Header::NUMBERS <= block[Header::COUNTER] + (sewn as u64) {
-        return Sewn::CounterFull;
+        return None;
     }
-    Sewn::Faces(sewn)
+    Some(sewn)
 }

@@ -7,8 +7,8 @@ use memory::header::Header;
 pub fn from_file(viewers: u32, b: usize, file: &[u8], block: &mut [u64]) -> Answer {
     if viewers::has(viewers, b as u64) {
         let mut own = [0u64; Header::VIEWER_WORDS];
-        if let Answer::Refused(r) = viewer::read_file(file, &mut own) {
-            return Answer::Refused(r);
+        if let Err(r) = viewer::read_file(file, &mut own) {
+            return Err(r);
         }
     }
     readfile::read_file(file, block)

@@ -2,25 +2,21 @@
 #![tactic(auto)]
 
 mod block; // block.rt: one block, from its file
-mod status; // status.rt: how a command ended
 mod tasks; // tasks.rt: what is done to a basin, and saved
 
 use answers::Answer;
 use commands::command;
 use commands::command::{Command, OracleWord};
-use commands::viewers::Viewers;
-use commands::words::Number;
-use console::arguments::{Given, Named, Options};
-use console::playing::Input;
+use console::arguments::{NoOracle, Options};
+use console::playing::WrongInput;
 use console::{arguments, inspect, playing};
 use memory::header::Header;
 use oracle::Oracle;
-use status::Status;
 use store::reading;
-use store::reading::Basin;
-use system::files::Contents;
+use system::files::ReadError;
+use system::say::{Failure, Told};
 use system::{files, process, say};
-use tasks::Task;
+use tasks::{Lent, Task};
 
 fn help() {
     say::text(b"dispatch keeps a basin as files block-00.dmap to block-15.dmap in this folder\n");
@@ -54,38 +50,30 @@ fn help() {
 }
 
 // The words of a command are not what it takes.
-fn wrong_words(usage: &[u8]) -> Status {
+fn wrong_words(usage: &[u8]) -> Told {
     say::complain(b"error: the words are not what this command takes: dispatch ");
     say::complain(usage);
     say::complain(b"\n");
-    Status::Error
+    Told
 }
 
-// Check, once the blocks are read.
-fn check_blocks(mesh: &[u64], viewers: u32, scratch: &mut [u64]) -> Status {
-    inspect::show_blocks(mesh, viewers);
-    if inspect::is_sound(mesh, viewers, scratch) {
-        say::text(b"sound\n");
-        return Status::Done;
+fn check(
+    rt: HostRuntime,
+    mesh: &mut [u64],
+    scratch: &mut [u64],
+    room: &mut [u8],
+) -> Result<(), Failure> {
+    let viewers = reading::viewers(rt)?;
+    let k = reading::look(rt, mesh, room)?;
+    if mesh.len() / Header::WORDS < k {
+        return Err(Failure::Error);
     }
-    Status::Refused
-}
-
-fn check(rt: HostRuntime, mesh: &mut [u64], scratch: &mut [u64], room: &mut [u8]) -> Status {
-    let Viewers::Bits(viewers) = reading::viewers(rt) else {
-        return Status::Error;
-    };
-    match reading::look(rt, mesh, room) {
-        Basin::Blocks(k) => {
-            if k <= mesh.len() / Header::WORDS {
-                let end = k * Header::WORDS;
-                return check_blocks(&mesh[0..end], viewers, scratch);
-            }
-            Status::Error
-        }
-        Basin::Refused => Status::Refused,
-        Basin::Error => Status::Error,
-    }
+    let end = k * Header::WORDS;
+    let blocks = &mesh[0..end];
+    inspect::show_blocks(blocks, viewers);
+    inspect::check_sound(blocks, viewers, scratch)?;
+    say::text(b"sound\n");
+    Ok(())
 }
 
 // The listing of a file, by way of lent bytes.
@@ -99,67 +87,57 @@ fn show_listing(file: &[u8], text: &mut [u8]) {
     }
 }
 
-// What list and cells tell of a block once it is read into a block's memory.
-fn tell_block(c: Command, file: &[u8], block: &[u64], rows: &mut [u64], text: &mut [u8]) {
-    match c {
-        Command::Cells => cells_text::show(block, rows),
-        _ => show_listing(file, text),
-    }
+// What is told of one block.
+#[derive(Clone, Copy)]
+enum Telling {
+    List,
+    Cells,
 }
 
-// What list and cells tell of block b's file, or why it is refused.
-fn tell_file(
-    c: Command,
-    b: usize,
-    viewers: u32,
-    file: &[u8],
-    block: &mut [u64],
-    rows: &mut [u64],
-    text: &mut [u8],
-) -> Status {
-    match block::from_file(viewers, b, file, block) {
-        Answer::Refused(r) => {
-            reading::say_refused(b, answers::refusal_number(r));
-            Status::Refused
+impl Telling {
+    // How the command is written.
+    fn usage(self) -> &'static [u8] {
+        match self {
+            Telling::List => b"list B",
+            Telling::Cells => b"cells B",
         }
-        Answer::Served => {
-            tell_block(c, file, block, rows, text);
-            Status::Done
+    }
+
+    // Tells it of a file that was read into a block's memory.
+    fn show(self, file: &[u8], block: &[u64], rows: &mut [u64], text: &mut [u8]) {
+        match self {
+            Telling::List => show_listing(file, text),
+            Telling::Cells => cells_text::show(block, rows),
         }
     }
 }
 
-// List and cells of block b.
+// List and cells of block b: what they tell of its file, or why it is refused.
 fn tell(
     rt: HostRuntime,
-    c: Command,
+    what: Telling,
     b: usize,
-    mesh: &mut [u64],
-    rows: &mut [u64],
     text: &mut [u8],
-    room: &mut [u8],
-) -> Status {
-    let Viewers::Bits(viewers) = reading::viewers(rt) else {
-        return Status::Error;
-    };
-    let contents = reading::file_of(rt, b, room);
-    if let Contents::Bytes(n) = contents {
-        if n <= room.len() {
-            if Header::WORDS <= mesh.len() {
-                let block = &mut mesh[0..Header::WORDS];
-                return tell_file(c, b, viewers, &room[0..n], block, rows, text);
-            }
-        }
+    lent: &mut Lent,
+) -> Result<(), Failure> {
+    let viewers = reading::viewers(rt)?;
+    if lent.mesh.len() < Header::WORDS {
+        return Err(Failure::Error);
     }
-    reading::say_unread(rt, b, contents);
-    Status::Error
-}
-
-// How the commands on one block are written.
-fn tell_usage(c: Command) -> Status {
-    match c {
-        Command::Cells => wrong_words(b"cells B"),
-        _ => wrong_words(b"list B"),
+    match reading::file_of(rt, b, lent.room) {
+        Ok(file) => {
+            let block = &mut lent.mesh[0..Header::WORDS];
+            if let Err(r) = block::from_file(viewers, b, file, block) {
+                reading::say_refused(b, r);
+                return Err(Failure::Refused);
+            }
+            what.show(file, block, lent.requests, text);
+            Ok(())
+        }
+        Err(e) => {
+            reading::say_unread(rt, b, e);
+            Err(Failure::Error)
+        }
     }
 }
 
@@ -171,274 +149,137 @@ fn words_are(rt: HostRuntime, n: usize, o: Options) -> bool {
 // The word of list and cells.
 fn tell_word(
     rt: HostRuntime,
-    c: Command,
+    what: Telling,
     o: Options,
-    mesh: &mut [u64],
-    rows: &mut [u64],
     text: &mut [u8],
-    room: &mut [u8],
-) -> Status {
+    lent: &mut Lent,
+) -> Result<(), Failure> {
     if !words_are(rt, 3, o) {
-        return tell_usage(c);
+        return Err(Failure::from(wrong_words(what.usage())));
     }
     match arguments::number_at(rt, 2) {
-        Number::Is(b) => {
-            if Header::BLOCKS <= b {
-                say::error(b"a block's number is 0 to 15");
-                return Status::Error;
-            }
-            tell(rt, c, b as usize, mesh, rows, text, room)
+        Some(b) if b < Header::BLOCKS => tell(rt, what, b as usize, text, lent),
+        Some(_) => {
+            say::error(b"a block's number is 0 to 15");
+            Err(Failure::Error)
         }
-        Number::Not => tell_usage(c),
+        None => Err(Failure::from(wrong_words(what.usage()))),
     }
 }
 
 // A line that keeps the list from being played.
-fn wrong_line(number: u64, why: &[u8]) -> Status {
+fn say_wrong_line(number: u64, why: &[u8]) {
     say::complain(b"error: line ");
     say::complain_number(number);
     say::complain(why);
     say::complain(b": nothing is played\n");
-    Status::Error
 }
 
-// Play, once the input is read.
-fn play_input(
-    rt: HostRuntime,
-    o: Options,
-    input: &[u8],
-    requests: &mut [u64],
-    outcomes: &mut [u64],
-    mesh: &mut [u64],
-    scratch: &mut [u64],
-    outbox: &mut [u8],
-    room: &mut [u8],
-) -> Status {
-    match playing::take(input, requests) {
-        Input::Requests(n) => {
-            tasks::run(
-                rt,
-                Task::Play(n),
-                o,
-                input,
-                requests,
-                outcomes,
-                mesh,
-                scratch,
-                outbox,
-                room,
-            )
+// Why the input is not played.
+fn wrong_input(e: WrongInput) -> Told {
+    match e {
+        WrongInput::Line(number) => say_wrong_line(number, b" is no request 'from to serial'"),
+        WrongInput::Cut(number) => {
+            say_wrong_line(number, b" is cut off, it has no line feed at its end")
         }
-        Input::Wrong(number) => wrong_line(number, b" is no request 'from to serial'"),
-        Input::Cut(number) => wrong_line(number, b" is cut off, it has no line feed at its end"),
-        Input::TooMany => {
-            say::error(b"more than 16384 requests: nothing is played");
-            Status::Error
+        WrongInput::TooMany => say::error(b"more than 16384 requests: nothing is played"),
+    }
+    Told
+}
+
+// Why the input is not read.
+fn unread_input(e: ReadError) -> Told {
+    match e {
+        ReadError::Missing => {}
+        ReadError::TooLarge => {
+            say::error(b"more than 524287 bytes of requests: nothing is played")
+        }
+        ReadError::Failed(cause) => {
+            say::failed(b"cannot read", b"the requests on standard input", cause)
         }
     }
+    Told
 }
 
-// Play, with what is read of standard input into lent bytes.
-fn play(
-    rt: HostRuntime,
-    o: Options,
-    text: &mut [u8],
-    requests: &mut [u64],
-    outcomes: &mut [u64],
-    mesh: &mut [u64],
-    scratch: &mut [u64],
-    outbox: &mut [u8],
-    room: &mut [u8],
-) -> Status {
-    match files::read_input(rt, text) {
-        Contents::Bytes(n) => {
-            if n <= text.len() {
-                let input = &text[0..n];
-                return play_input(
-                    rt, o, input, requests, outcomes, mesh, scratch, outbox, room,
-                );
-            }
-            Status::Error
-        }
-        Contents::Missing => Status::Error,
-        Contents::TooLarge => {
-            say::error(b"more than 524287 bytes of requests: nothing is played");
-            Status::Error
-        }
-        Contents::Failed(e) => {
-            say::failed(b"cannot read", b"the requests on standard input", e);
-            Status::Error
-        }
+// Play, with what is read of standard input into lent bytes. It takes options alone.
+fn play(rt: HostRuntime, o: Options, text: &mut [u8], lent: &mut Lent) -> Result<(), Failure> {
+    if arguments::count(rt) != 2 {
+        return Err(Failure::from(wrong_words(b"play [--dry-run] [--all-or-nothing]")));
     }
-}
-
-// The task that words name, or that they name none, which was told.
-#[derive(Clone, Copy)]
-enum Planned {
-    Task(Task),
-    Told,
-}
-
-fn no_task(usage: &[u8]) -> Planned {
-    wrong_words(usage);
-    Planned::Told
+    let input = files::read_input(rt, text).map_err(unread_input)?;
+    let n = playing::take(input, lent.requests).map_err(wrong_input)?;
+    tasks::run(rt, Task::Play(n), o, input, lent)
 }
 
 // The oracle that the words name.
-fn oracle_named(rt: HostRuntime) -> Named {
-    let mut word = [0u8; 16];
-    let n = arguments::word(rt, 2, &mut word);
-    let words = arguments::count(rt);
-    match command::oracle_of(&word[..n]) {
-        OracleWord::All => {
-            if words == 3 {
-                return Named::Oracle(Oracle::Every);
-            }
-            Named::Not
-        }
-        OracleWord::Box => {
-            if words == 9 {
-                return arguments::box_of(rt);
-            }
-            Named::Not
-        }
-        OracleWord::Plane => {
-            if words == 5 {
-                return arguments::plane_of(rt);
-            }
-            Named::Not
-        }
-        OracleWord::Unknown => Named::Not,
+fn oracle_named(rt: HostRuntime) -> Result<Oracle, NoOracle> {
+    let mut room = [0u8; 16];
+    let word = command::oracle_of(arguments::word(rt, 2, &mut room));
+    match (word, arguments::count(rt)) {
+        (OracleWord::All, 3) => Ok(Oracle::Every),
+        (OracleWord::Box, 9) => arguments::box_of(rt),
+        (OracleWord::Plane, 5) => arguments::plane_of(rt),
+        _ => Err(NoOracle::Words),
     }
 }
 
-fn balance_words(rt: HostRuntime) -> Planned {
+fn balance_words(rt: HostRuntime) -> Result<Task, Told> {
     match oracle_named(rt) {
-        Named::Oracle(o) => Planned::Task(Task::Balance(o)),
-        Named::Told => Planned::Told,
-        Named::Not => no_task(
+        Ok(o) => Ok(Task::Balance(o)),
+        Err(NoOracle::Told) => Err(Told),
+        Err(NoOracle::Words) => Err(wrong_words(
             b"balance ORACLE [--dry-run], ORACLE one of: all; box x0 y0 z0 x1 y1 z1; plane axis value",
-        ),
+        )),
     }
 }
 
-// A number of blocks for a basin.
-#[derive(Clone, Copy)]
-enum Blocks {
-    Are(usize),
-    Told,
-}
-
-// The word of split and add.
-fn blocks_word(rt: HostRuntime, usage: &[u8]) -> Blocks {
+// The word of split and add: a number of blocks for a basin.
+fn blocks_word(rt: HostRuntime, usage: &[u8]) -> Result<usize, Told> {
     if arguments::count(rt) != 3 {
-        wrong_words(usage);
-        return Blocks::Told;
+        return Err(wrong_words(usage));
     }
     match arguments::number_at(rt, 2) {
-        Number::Is(n) => {
+        Some(n) => {
             if (n < 1) | (Header::BLOCKS < n) {
                 say::error(b"a basin has 1 to 16 blocks");
-                return Blocks::Told;
+                return Err(Told);
             }
-            Blocks::Are(n as usize)
+            Ok(n as usize)
         }
-        Number::Not => {
-            wrong_words(usage);
-            Blocks::Told
-        }
+        None => Err(wrong_words(usage)),
     }
 }
 
-fn split_words(rt: HostRuntime) -> Planned {
-    match blocks_word(rt, b"split K [--dry-run]") {
-        Blocks::Are(n) => Planned::Task(Task::Split(n)),
-        Blocks::Told => Planned::Told,
+// The task that a command's words ask for, if it takes no list of requests.
+fn plan(rt: HostRuntime, c: Command) -> Result<Task, Told> {
+    match c {
+        Command::Balance => balance_words(rt),
+        Command::Split => Ok(Task::Split(blocks_word(rt, b"split K [--dry-run]")?)),
+        Command::Add => Ok(Task::Add(blocks_word(rt, b"add K [--dry-run]")?)),
+        _ => Err(Told),
     }
 }
 
-fn add_words(rt: HostRuntime) -> Planned {
-    match blocks_word(rt, b"add K [--dry-run]") {
-        Blocks::Are(n) => Planned::Task(Task::Add(n)),
-        Blocks::Told => Planned::Told,
-    }
-}
-
-// A task that takes no list of requests.
+// Does such a task.
 fn do_planned(
     rt: HostRuntime,
-    planned: Planned,
+    planned: Result<Task, Told>,
     o: Options,
-    requests: &mut [u64],
-    outcomes: &mut [u64],
-    mesh: &mut [u64],
-    scratch: &mut [u64],
-    outbox: &mut [u8],
-    room: &mut [u8],
-) -> Status {
+    lent: &mut Lent,
+) -> Result<(), Failure> {
     if o.whole {
         say::error(b"only play takes --all-or-nothing");
-        return Status::Error;
+        return Err(Failure::Error);
     }
-    match planned {
-        Planned::Task(t) => {
-            tasks::run(
-                rt,
-                t,
-                o,
-                &[],
-                requests,
-                outcomes,
-                mesh,
-                scratch,
-                outbox,
-                room,
-            )
-        }
-        Planned::Told => Status::Error,
-    }
+    tasks::run(rt, planned?, o, &[], lent)
 }
 
 // Check takes no word more.
-fn check_word(
-    rt: HostRuntime,
-    o: Options,
-    mesh: &mut [u64],
-    scratch: &mut [u64],
-    room: &mut [u8],
-) -> Status {
+fn check_word(rt: HostRuntime, o: Options, lent: &mut Lent) -> Result<(), Failure> {
     if words_are(rt, 2, o) {
-        return check(rt, mesh, scratch, room);
+        return check(rt, lent.mesh, lent.scratch, lent.room);
     }
-    wrong_words(b"check")
-}
-
-// Play takes options alone.
-fn play_word(
-    rt: HostRuntime,
-    o: Options,
-    text: &mut [u8],
-    requests: &mut [u64],
-    outcomes: &mut [u64],
-    mesh: &mut [u64],
-    scratch: &mut [u64],
-    outbox: &mut [u8],
-    room: &mut [u8],
-) -> Status {
-    if arguments::count(rt) == 2 {
-        return play(rt, o, text, requests, outcomes, mesh, scratch, outbox, room);
-    }
-    wrong_words(b"play [--dry-run] [--all-or-nothing]")
-}
-
-// The task that a command's words ask for.
-fn plan(rt: HostRuntime, c: Command) -> Planned {
-    match c {
-        Command::Balance => balance_words(rt),
-        Command::Split => split_words(rt),
-        Command::Add => add_words(rt),
-        _ => Planned::Told,
-    }
+    Err(Failure::from(wrong_words(b"check")))
 }
 
 // A command that reads a basin, in memory that is lent to it.
@@ -447,36 +288,21 @@ fn work(
     c: Command,
     o: Options,
     text: &mut [u8],
-    requests: &mut [u64],
-    outcomes: &mut [u64],
-    mesh: &mut [u64],
-    scratch: &mut [u64],
-    outbox: &mut [u8],
-    room: &mut [u8],
-) -> Status {
+    lent: &mut Lent,
+) -> Result<(), Failure> {
     match c {
-        Command::Check => check_word(rt, o, mesh, scratch, room),
-        Command::List => tell_word(rt, c, o, mesh, requests, text, room),
-        Command::Cells => tell_word(rt, c, o, mesh, requests, text, room),
-        Command::Play => play_word(rt, o, text, requests, outcomes, mesh, scratch, outbox, room),
-        _ => do_planned(
-            rt,
-            plan(rt, c),
-            o,
-            requests,
-            outcomes,
-            mesh,
-            scratch,
-            outbox,
-            room,
-        ),
+        Command::Check => check_word(rt, o, lent),
+        Command::List => tell_word(rt, Telling::List, o, text, lent),
+        Command::Cells => tell_word(rt, Telling::Cells, o, text, lent),
+        Command::Play => play(rt, o, text, lent),
+        _ => do_planned(rt, plan(rt, c), o, lent),
     }
 }
 
 // The same, with all memory that any command needs: sixteen blocks and what is made of them, 6.5 MB. It is not to become a part of its caller,
 // which asks first whether there is such a stack.
 #[inline(never)]
-fn with_memory(rt: HostRuntime, c: Command, o: Options) -> Status {
+fn with_memory(rt: HostRuntime, c: Command, o: Options) -> Result<(), Failure> {
     let mut mesh = [0u64; 524416];
     let mut scratch = [0u64; Header::SCRATCH];
     let mut outbox = [0u8; Header::OUTBOX];
@@ -484,30 +310,27 @@ fn with_memory(rt: HostRuntime, c: Command, o: Options) -> Status {
     let mut text = [0u8; 524288];
     let mut requests = [0u64; 98304];
     let mut outcomes = [0u64; 16384];
-    work(
-        rt,
-        c,
-        o,
-        &mut text,
-        &mut requests,
-        &mut outcomes,
-        &mut mesh,
-        &mut scratch,
-        &mut outbox,
-        &mut room,
-    )
+    let mut lent = Lent {
+        requests: &mut requests,
+        outcomes: &mut outcomes,
+        mesh: &mut mesh,
+        scratch: &mut scratch,
+        outbox: &mut outbox,
+        room: &mut room,
+    };
+    work(rt, c, o, &mut text, &mut lent)
 }
 
 // Runs a command.
-fn run(rt: HostRuntime, c: Command, o: Options) -> Status {
+fn run(rt: HostRuntime, c: Command, o: Options) -> Result<(), Failure> {
     match c {
         Command::Help => {
             help();
-            Status::Done
+            Ok(())
         }
         Command::Unknown => {
             say::error(b"unknown command: dispatch help tells what there is");
-            Status::Error
+            Err(Failure::Error)
         }
         _ => with_memory(rt, c, o),
     }
@@ -518,30 +341,35 @@ fn command_given(rt: HostRuntime) -> Command {
     if arguments::count(rt) < 2 {
         return Command::Help;
     }
-    let mut word = [0u8; 16];
-    let n = arguments::word(rt, 1, &mut word);
-    command::command_of(&word[..n])
+    let mut room = [0u8; 16];
+    command::command_of(arguments::word(rt, 1, &mut room))
 }
 
 // The stack that a command needs, in bytes.
 const STACK: u64 = 7864320;
 
-fn start(rt: HostRuntime) -> Status {
+fn start(rt: HostRuntime) -> Result<(), Failure> {
     if !process::has_stack(rt, STACK) {
         say::error(b"the program needs 7.5 MB of stack, and its limit is lower (ulimit -s 8192)");
-        return Status::Error;
+        return Err(Failure::Error);
     }
-    match arguments::options_given(rt) {
-        Given::Options(o) => run(rt, command_given(rt), o),
-        Given::Told => Status::Error,
+    let o = arguments::options_given(rt)?;
+    run(rt, command_given(rt), o)
+}
+
+// How a command ended, as a digit: done; refused; or not done, for another reason.
+fn digit(ended: Result<(), Failure>) -> u8 {
+    match ended {
+        Ok(()) => b'0',
+        Err(Failure::Refused) => b'1',
+        Err(Failure::Error) => b'2',
     }
 }
 
 fn main(rt: HostRuntime) {
     files::fill_standard(rt);
-    let s = start(rt);
-    let to = arguments::status_descriptor(rt);
-    if 0 <= to {
-        io::write_all(to, &[status::digit(s)]);
+    let ended = start(rt);
+    if let Some(to) = arguments::status_descriptor(rt) {
+        io::write_all(to, &[digit(ended)]);
     }
 }

@@ -5,6 +5,7 @@
 --   level_told, blocked_told, move_told, move_refused    the number and the words of next move, by the answer's case
 --   not_sized, moved             a no to the size of the answer, and all else
 --   putting-*, put_all           the loop that puts the surpluses
+use Rattle.std.specs.Prelude.{Err, Ok}
 use mathlib.Core.Path.{◌≡◌, refl, sym, ap, ◌∙◌}
 use mathlib.Core.Bool.{true, false}
 use mathlib.Core.List.{List, [], ◌∷◌, map}
@@ -19,23 +20,21 @@ use borrow.Author.Tests.{ltb-true, ltb-false, eq-eqb, ne_eqb}
 use Rattle.model.specs.Balance as balance
 use Rattle.model.specs.Calls.{Answer, Result, number_of, signed_word}
 use Rattle.laws.proofs.Tests.{by_cases, last_or_below}
-use Rattle.answers.specs.Answers.{question, written_of, Gives}
+use Rattle.answers.specs.Answers.{OrRefused, question, written_of, Gives}
 use Rattle.balance.specs.Answer.{answer_with, balance_told, GivesBalance}
 use Rattle.balance.specs.declared.nextmove.Balance.{Balance}
 use Rattle.answers.specs.declared.NextMove.{NextMove}
 use Rattle.answers.specs.declared.NextMove.TheVariants as next
 use Rattle.answers.specs.declared.Refusal.{Refusal}
-use Rattle.answers.specs.declared.Written.{Written}
-use Rattle.answers.specs.declared.Written.TheVariants as written
 use Rattle.dmap.specs.CInterface.{AnswerNumbered, CountWritten, WrittenCounted, written_over, answer_words, sized_first, balance_over, ToldBalance, Moved, with_surpluses}
 
-pub told_served : {w : Written} {before n : ℕ} → w ≡ written.Served n → CountWritten (written_of w) before 0 n
+pub told_served : {w : OrRefused ℕ} {before n : ℕ} → w ≡ Ok n → CountWritten (written_of w) before 0 n
 told_served {before = b} e = record {
   number_is = sym (ap (λ x. number_of (written_of x)) e);
   written_is = sym (ap (λ x. written_over b (written_of x)) e);
 }
 
-pub told_refused : {w : Written} {before number : ℕ} {r : Refusal} → w ≡ written.Refused r → number ≡ question r → CountWritten (written_of w) before number before
+pub told_refused : {w : OrRefused ℕ} {before number : ℕ} {r : Refusal} → w ≡ Err r → number ≡ question r → CountWritten (written_of w) before number before
 told_refused {before = b} e q = record {
   number_is = q ∙ sym (ap (λ x. number_of (written_of x)) e);
   written_is = sym (ap (λ x. written_over b (written_of x)) e);

@@ -192,11 +192,11 @@ fn tell_written(w: Written, written: &mut u64) -> u32
     ensures { CountWritten (written_of w) written.old result written.new }
 {
     match w {
-        Written::Served(n) => {
+        Ok(n) => {
             *written = n as u64;
             0
         }
-        Written::Refused(r) => answers::refusal_number(r),
+        Err(r) => answers::refusal_number(r),
     }
 }
 
@@ -221,10 +221,8 @@ fn put_surpluses(answer: &mut [u64], surplus: [i32; BLOCKS])
     ensures { answer.new ≡ with_surpluses answer.old surplus }
 {
     // Those before i are put.
-    let mut i = 0;
-    while i < BLOCKS {
+    for i in 0..BLOCKS {
         answer[5 + i] = balance::nextmove::signed_word(surplus[i]);
-        i += 1;
     }
 }
 

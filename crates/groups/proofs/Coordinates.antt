@@ -1,16 +1,19 @@
 -- Coordinates: one byte more, put and read. Assumes nothing.
-use mathlib.Core.Path.{◌≡◌, refl, ◌∙◌, ap}
+use Rattle.std.specs.Prelude.{None, Some}
+use mathlib.Core.Path.{◌≡◌, refl, subst, ◌∙◌, ap}
 use mathlib.Core.List.{List, [], ◌∷◌}
 use mathlib.Core.Option.{some}
-use Prim.Native.Nat.{ℕ, zero, suc, ◌+◌, ◌*◌, ◌-◌, ◌/◌, ◌%◌, ◌<◌, ◌≤◌}
+use Prim.Native.Nat.{ℕ, zero, suc, ◌+◌, ◌*◌, ◌-◌, ◌/◌, ◌<◌, ◌≤◌}
 use native.Mathlib.Numerals.{add-one}
 use native.Mathlib.Omega.{arith}
-use lib.ListN.{length, get_or, drop, set, length-set, length-drop}
-use lib.Seq.{sets, drop-cons}
+use lib.ListN.{length, get_or, take, drop, length-drop}
+use lib.Seq.{drop-cons, take-suc, take_all}
+use borrow.Rule.Slice.PartMut.{put_mid}
+use Rattle.std.specs.Int.{w64, to_le_bytes}
+use Rattle.groups.proofs.Writing.{stored_then, stored_part}
 use Rattle.model.specs.Layouts.{low_bytes, read_bytes, coordinate}
 use Rattle.theory.proofs.LayoutLaws.{bytes_none}
 use Rattle.groups.specs.Slices.{Stored, read_at}
-use Rattle.groups.specs.declared.Read.TheVariants.{Value, Bad}
 
 -- PUT
 bytes_length : (n v : ℕ) → length (low_bytes n v) ≡ n
@@ -22,42 +25,36 @@ pub coordinate_length : (v : ℕ) → length (coordinate.put v) ≡ 8
 unfolding coordinate
 coordinate_length v = bytes_length 8 v
 
--- while a word is put: what is left of it goes where the next byte goes
-pub record Spelling (before : List ℕ) (at word : ℕ) (out : List ℕ) (p x left : ℕ) : Type 0 where
-  pub end : p + left ≡ at + 8
-  pub same_length : length out ≡ length before
-  pub same : sets out p (low_bytes left x) ≡ sets before at (coordinate.put word)
+-- the word's bytes, the lowest first
+pub word_bytes : (v : ℕ) → to_le_bytes w64 v ≡ coordinate.put v
+unfolding coordinate low_bytes
+word_bytes v = eight _ _ _ _ _ _ _ (omega arith) (omega arith) (omega arith) (omega arith) (omega arith) (omega arith) (omega arith)
+  where
+    eight : {a b c d e f g h : ℕ} (b' c' d' e' f' g' h' : ℕ) → b ≡ b' → c ≡ c' → d ≡ d' → e ≡ e' → f ≡ f' → g ≡ g' → h ≡ h'
+        → a ∷ b ∷ c ∷ d ∷ e ∷ f ∷ g ∷ h ∷ [] ≡ a ∷ b' ∷ c' ∷ d' ∷ e' ∷ f' ∷ g' ∷ h' ∷ []
+    eight b' c' d' e' f' g' h' p q r s t u v = rw (p, q, r, s, t, u, v) refl
 
-pub spelling_start : (l : List ℕ) (at word : ℕ) → Spelling l at word l at word 8
-unfolding coordinate
-spelling_start l at word = record { end = refl; same_length = refl; same = refl }
+-- put at once
+pub word_stored : (l : List ℕ) (at word : ℕ) {bs ys : List ℕ} → at + 8 ≤ length l → bs ≡ to_le_bytes w64 word → ys ≡ bs
+    → Stored l at (coordinate.put word) (put_mid at (at + 8 - at) l ys) (at + 8)
+word_stored l at word {bs} {ys} h e f =
+    let n = coordinate_length word in
+    stored_part l at (omega arith) h (f ∙ e ∙ word_bytes word)
 
-byte_more : (k p x : ℕ) (l : List ℕ) → 0 < k → sets (set l p (x % 256)) (p + 1) (low_bytes (k - 1) (x / 256)) ≡ sets l p (low_bytes k x)
-unfolding low_bytes
-byte_more zero p x l h = absurd (omega arith)
-byte_more (suc k) p x l h = let e : suc k - 1 ≡ k = omega arith in rw (e, add-one)
+-- put one by one: those before i
+pub bytes_more : {l out m : List ℕ} (bs : List ℕ) {at p next : ℕ} (i : ℕ) → Stored l at (take i bs) out p → i < length bs
+    → Stored out p (get_or bs i 0 ∷ []) m next → Stored l at (take (i + 1) bs) m next
+bytes_more bs i w h s = rw (add-one i, take-suc bs i 0 h) (stored_then w s)
 
-byte_none : (k p x : ℕ) (l : List ℕ) → k ≡ 0 → l ≡ sets l p (low_bytes k x)
-unfolding low_bytes
-byte_none k p x l e = rw e
-
-module _ {l out : List ℕ} {at word p x left : ℕ} (w : Spelling l at word out p x left) where
-  pub spelling_step : 0 < left → Spelling l at word (set out p (x % 256)) (p + 1) (x / 256) (left - 1)
-  spelling_step h = record {
-    end = omega (arith, w.end);
-    same_length = length-set out p (x % 256) ∙ w.same_length;
-    same = byte_more left p x out h ∙ w.same;
-  }
-
-  -- by a store that tests for room
-  pub spelling_stored : {m : List ℕ} {next : ℕ} → 0 < left → Stored out p ((x % 256) ∷ []) m next → Spelling l at word m next (x / 256) (left - 1)
-  spelling_stored h s = rw (s.slice, s.past) (spelling_step h)
-
-  pub spelling_end : left ≡ 0 → Stored l at (coordinate.put word) out p
-  spelling_end h = record { slice = byte_none left p x out h ∙ w.same; past = omega (arith, w.end, coordinate_length word) }
+pub bytes_all : {l out : List ℕ} (bs : List ℕ) {at p : ℕ} (word i : ℕ) → Stored l at (take i bs) out p → 8 ≤ i → bs ≡ to_le_bytes w64 word
+    → Stored l at (coordinate.put word) out p
+bytes_all {l} {out} bs {at} {p} word i w h e =
+    let same : bs ≡ coordinate.put word = e ∙ word_bytes word in
+    let n = coordinate_length word in
+    subst (λ (z : List ℕ). Stored l at z out p) (take_all i bs (omega (arith, ap length same)) ∙ same) w
 
 -- READ
-pub coordinate_short : (at : ℕ) (s : List ℕ) → length s < at + 8 → Bad ≡ read_at coordinate s at
+pub coordinate_short : (at : ℕ) (s : List ℕ) → length s < at + 8 → None ≡ read_at coordinate s at
 unfolding read_at coordinate
 coordinate_short at s h = rw (bytes_none 8 (drop at s) (rw length-drop (omega arith)))
 
@@ -74,7 +71,7 @@ byte s rest k at next b h l n e r = rw (drop-cons s at 0 l, ← add-one at, ← 
 pub coordinate_word : (s : List ℕ) (at a b c d e f g h : ℕ) → at + 8 ≤ length s
     → a ≡ get_or s at 0 → b ≡ get_or s (at + 1) 0 → c ≡ get_or s (at + 2) 0 → d ≡ get_or s (at + 3) 0 → e ≡ get_or s (at + 4) 0 → f ≡ get_or s (at + 5) 0
     → g ≡ get_or s (at + 6) 0 → h ≡ get_or s (at + 7) 0
-    → Value (a + 256 * (b + 256 * (c + 256 * (d + 256 * (e + 256 * (f + 256 * (g + 256 * h))))))) (at + 8) ≡ read_at coordinate s at
+    → Some ((a + 256 * (b + 256 * (c + 256 * (d + 256 * (e + 256 * (f + 256 * (g + 256 * h))))))), (at + 8)) ≡ read_at coordinate s at
 unfolding read_at coordinate
 coordinate_word s at a b c d e f g h l pa pb pc pd pe pf pg ph =
     let end = no_byte (drop (at + 8) s) in

@@ -1,4 +1,6 @@
 -- Where a read ends: past its place, within the slice, and what it leaves is the rest of the slice. Assumes nothing.
+use Rattle.std.proofs.lemmas.Option.{some_pair_parts}
+use Rattle.std.specs.Prelude.{None, Some}
 use mathlib.Core.Path.{◌≡◌, refl, sym, ◌∙◌, ap}
 use mathlib.Core.Bool.{Bool, not}
 use mathlib.Core.List.{List, [], ◌∷◌}
@@ -13,7 +15,6 @@ use Rattle.model.specs.Messages.{label}
 use Rattle.laws.proofs.Tests.{by_cases}
 use Rattle.theory.proofs.LayoutLaws.{then_some, when_some}
 use Rattle.groups.specs.Slices.{as_read, read_at, label_code}
-use Rattle.groups.specs.declared.Read.TheVariants.{Value, Bad}
 
 -- some bytes were read, and the rest is left
 pub record Onward (bs rest : List ℕ) : Type 0 where
@@ -44,23 +45,22 @@ from_onward l s rest at v e o =
     }
 
 -- a value was read: what the layout gives there, and where it ends
-pub value_at : (l : Layout ℕ) → Ends l → {s : List ℕ} {at v next : ℕ} → Value v next ≡ read_at l s at → Reads l s at v next
+pub value_at : (l : Layout ℕ) → Ends l → {s : List ℕ} {at v next : ℕ} → Some (v, next) ≡ read_at l s at → Reads l s at v next
 unfolding read_at
 value_at l E {s} {at} {v} {next} h = go (l.get (drop at s)) refl h
   where
-    go : (r : Option (ℕ × List ℕ)) → l.get (drop at s) ≡ r → Value v next ≡ as_read (length s) r → Reads l s at v next
+    go : (r : Option (ℕ × List ℕ)) → l.get (drop at s) ≡ r → Some (v, next) ≡ as_read (length s) r → Reads l s at v next
     go none e q = let z : ◌≡◌ {A = ℕ} 0 1 = cc in absurd (omega arith)
     go (some r) e q =
-        let a : v ≡ r.0 = cc in
-        let b : next ≡ length s - length r.1 = cc in
-        rw (a, b) (from_onward l s r.1 at r.0 e (E (drop at s) r.0 r.1 e))
+        let same = some_pair_parts v r.0 next (length s - length r.1) q in
+        rw (same.0, same.1) (from_onward l s r.1 at r.0 e (E (drop at s) r.0 r.1 e))
 
 -- no value was read: the layout gives none
-pub bad_at : (l : Layout ℕ) (s : List ℕ) (at : ℕ) → Bad ≡ read_at l s at → l.get (drop at s) ≡ none
+pub bad_at : (l : Layout ℕ) (s : List ℕ) (at : ℕ) → None ≡ read_at l s at → l.get (drop at s) ≡ none
 unfolding read_at
 bad_at l s at h = go (l.get (drop at s)) h
   where
-    go : (r : Option (ℕ × List ℕ)) → Bad ≡ as_read (length s) r → r ≡ none
+    go : (r : Option (ℕ × List ℕ)) → None ≡ as_read (length s) r → r ≡ none
     go none q = refl
     go (some r) q = let z : ◌≡◌ {A = ℕ} 0 1 = cc in absurd (omega arith)
 
@@ -69,7 +69,7 @@ pub place_back : (s : List ℕ) (next : ℕ) → next ≤ length s → length s 
 place_back s next h = omega (arith, length-drop next s)
 
 -- and the other way round
-pub at_value : (l : Layout ℕ) {s : List ℕ} {at v next : ℕ} → Reads l s at v next → Value v next ≡ read_at l s at
+pub at_value : (l : Layout ℕ) {s : List ℕ} {at v next : ℕ} → Reads l s at v next → Some (v, next) ≡ read_at l s at
 unfolding read_at
 at_value l {s} {at} {v} {next} r = rw (r.value, place_back s next r.within)
 
@@ -170,14 +170,14 @@ unfolding coordinate
 coordinate_ends = bytes_end 7
 
 -- A VALUE WAS READ, by layout
-pub group_at : {s : List ℕ} {at v next : ℕ} → Value v next ≡ read_at group s at → Reads group s at v next
+pub group_at : {s : List ℕ} {at v next : ℕ} → Some (v, next) ≡ read_at group s at → Reads group s at v next
 group_at = value_at group group_ends
 
-pub serial_at : {s : List ℕ} {at v next : ℕ} → Value v next ≡ read_at serial s at → Reads serial s at v next
+pub serial_at : {s : List ℕ} {at v next : ℕ} → Some (v, next) ≡ read_at serial s at → Reads serial s at v next
 serial_at = value_at serial serial_ends
 
-pub at_most_at : (n : ℕ) {s : List ℕ} {at v next : ℕ} → Value v next ≡ read_at (at_most n) s at → Reads (at_most n) s at v next
+pub at_most_at : (n : ℕ) {s : List ℕ} {at v next : ℕ} → Some (v, next) ≡ read_at (at_most n) s at → Reads (at_most n) s at v next
 at_most_at n = value_at (at_most n) (at_most_ends n)
 
-pub coordinate_at : {s : List ℕ} {at v next : ℕ} → Value v next ≡ read_at coordinate s at → Reads coordinate s at v next
+pub coordinate_at : {s : List ℕ} {at v next : ℕ} → Some (v, next) ≡ read_at coordinate s at → Reads coordinate s at v next
 coordinate_at = value_at coordinate coordinate_ends

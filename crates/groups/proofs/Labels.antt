@@ -1,4 +1,5 @@
 -- Labels: three numbers one after the other, and the code that stands for them. Assumes nothing.
+use Rattle.std.specs.Prelude.{None, Some}
 use mathlib.Core.Path.{◌≡◌, refl, ◌∙◌, ap}
 use mathlib.Core.List.{List, ◌++◌}
 use mathlib.Core.Option.{none, some}
@@ -14,7 +15,6 @@ use Rattle.model.specs.Messages.{label}
 use Rattle.laws.proofs.Labels.{in_code}
 use Rattle.theory.proofs.LayoutLaws.{same_value, then_some, when_some}
 use Rattle.groups.specs.Slices.{read_at, label_code}
-use Rattle.groups.specs.declared.Read.TheVariants.{Value, Bad}
 use Rattle.groups.proofs.Ends.{Reads, same_rest, value_at, at_value, label_code_ends}
 
 -- PUT
@@ -57,21 +57,21 @@ label_ranges bs l rest h =
     (rw n at (group_bound maker.1 number.0 number.1 number.2), rw p at (at_most_bound 4095 number.1 position.0 position.1 position.2))
 
 module _ (s : List ℕ) (at : ℕ) where
-  pub no_maker : (at_most 15).get (drop at s) ≡ none → Bad ≡ read_at label_code s at
+  pub no_maker : (at_most 15).get (drop at s) ≡ none → None ≡ read_at label_code s at
   unfolding read_at label_code label as_type ◌⊕◌ ◌⊗◌
   no_maker e = rw e
 
   module _ {m from : ℕ} (r : Reads (at_most 15) s at m from) where
-    pub no_number : group.get (drop from s) ≡ none → Bad ≡ read_at label_code s at
+    pub no_number : group.get (drop from s) ≡ none → None ≡ read_at label_code s at
     unfolding read_at label_code label as_type ◌⊕◌ ◌⊗◌
     no_number e = rw (r.value, e)
 
     module _ {n then : ℕ} (q : Reads group s from n then) where
-      pub no_position : (at_most 4095).get (drop then s) ≡ none → Bad ≡ read_at label_code s at
+      pub no_position : (at_most 4095).get (drop then s) ≡ none → None ≡ read_at label_code s at
       unfolding read_at label_code label as_type ◌⊕◌ ◌⊗◌
       no_position e = rw (r.value, q.value, e)
 
-      pub label_code_read : {p next : ℕ} → Reads (at_most 4095) s then p next → Value ((m * 2 ^ 32 + n) * 4096 + p) next ≡ read_at label_code s at
+      pub label_code_read : {p next : ℕ} → Reads (at_most 4095) s then p next → Some (((m * 2 ^ 32 + n) * 4096 + p), next) ≡ read_at label_code s at
       label_code_read {p} {next} t = at_value label_code (record {
         value = unfold label_code label as_type ◌⊕◌ ◌⊗◌ code in (rw (r.value, q.value, t.value));
         past = omega (arith, r.past, q.past, t.past);
@@ -86,7 +86,7 @@ unfolding label_code as_type
 decoded bs a rest h = let t = then_some (label.get bs) _ _ h in same_label bs t.0 a t.1 rest t.2 (same_value t.3) (same_rest t.3)
 
 -- what a read label is: the label that its code stands for
-pub label_at : {s : List ℕ} {at a next : ℕ} → Value a next ≡ read_at label_code s at → Reads label s at (label_in a) next
+pub label_at : {s : List ℕ} {at a next : ℕ} → Some (a, next) ≡ read_at label_code s at → Reads label s at (label_in a) next
 label_at {s} {at} {a} {next} h =
     let r = value_at label_code label_code_ends h in
     record { value = decoded (drop at s) a (drop next s) r.value; past = r.past; within = r.within }

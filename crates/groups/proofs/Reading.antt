@@ -1,4 +1,6 @@
 -- Reading a number: one group more, and where a read ends. Assumes nothing.
+use Rattle.std.specs.Prelude.{None, Some}
+use Rattle.groups.specs.Slices.{MaybeRead}
 use mathlib.Core.Path.{◌≡◌, refl, sym, ◌∙◌, ap}
 use mathlib.Core.Bool.{Bool, cond}
 use mathlib.Core.List.{List}
@@ -14,8 +16,6 @@ use borrow.Author.Tests.{lt-ltb, le-ltb, le-leb, lt-leb, ne_eqb, eqb-false}
 use Rattle.model.specs.Layouts.{then, when, read_groups, group_below, group, such_that, at_most}
 use Rattle.laws.proofs.Tests.{by_cases}
 use Rattle.groups.specs.Slices.{as_read, read_at, over, kept, number_from}
-use Rattle.groups.specs.declared.Read.{Read}
-use Rattle.groups.specs.declared.Read.TheVariants.{Value, Bad}
 
 -- ONE GROUP of the number at a place
 pub read_end : (n at : ℕ) (s : List ℕ) → length s ≤ at → read_groups n (drop at s) ≡ none
@@ -49,10 +49,10 @@ over_over low scale d (some r) = by_cases (eqb r.0 0)
     rw (e, ne_eqb (d + 128 * r.0) 0 (λ z. eqb-false r.0 0 e (omega arith)), m))
 
 -- WHERE A VALUE STANDS
-pub placed_at : (v at : ℕ) (s : List ℕ) → at < length s → as_read (length s) (some (v, drop (at + 1) s)) ≡ Value v (at + 1)
+pub placed_at : (v at : ℕ) (s : List ℕ) → at < length s → as_read (length s) (some (v, drop (at + 1) s)) ≡ Some (v, (at + 1))
 placed_at v at s h = let e : length s - (length s - (at + 1)) ≡ at + 1 = omega arith in rw (length-drop (at + 1) s, e)
 
-pub kept_at : (v at bound : ℕ) (s : List ℕ) → at < length s → as_read (length s) (kept bound (some (v, drop (at + 1) s))) ≡ cond (ltb v bound) (Value v (at + 1)) Bad
+pub kept_at : (v at bound : ℕ) (s : List ℕ) → at < length s → as_read (length s) (kept bound (some (v, drop (at + 1) s))) ≡ cond (ltb v bound) (Some (v, (at + 1))) None
 kept_at v at bound s h = by_cases (ltb v bound) (λ e. rw e (placed_at v at s h)) (λ e. rw e)
 
 -- WHILE A NUMBER IS READ: the groups read so far, with what is read from p on, give the number
@@ -78,17 +78,17 @@ module _ {s : List ℕ} {from first more p low scale left : ℕ} (w : Reading s 
   pub group_fits : (d : ℕ) → d < 128 → scale * d ≤ scale * 127
   group_fits d h = mul-le-mul_left scale (omega arith)
 
-  pub ends_short : (bound : ℕ) → length s ≤ p → Bad ≡ number_from s from first more bound
+  pub ends_short : (bound : ℕ) → length s ≤ p → None ≡ number_from s from first more bound
   ends_short bound h = rw (w.same, read_end left p s h)
 
   module _ (bound b : ℕ) (h : p < length s) (e : b ≡ get_or s p 0) where
-    pub last_zero : b < 128 → b ≡ 0 → Bad ≡ number_from s from first more bound
+    pub last_zero : b < 128 → b ≡ 0 → None ≡ number_from s from first more bound
     last_zero l z = rw (w.same, read_last left p s h (omega arith), ← e, z)
 
-    pub last_more : b < 128 → (b ≡ 0 → ⊥) → cond (ltb (low + scale * b) bound) (Value (low + scale * b) (p + 1)) Bad ≡ number_from s from first more bound
+    pub last_more : b < 128 → (b ≡ 0 → ⊥) → cond (ltb (low + scale * b) bound) (Some ((low + scale * b), (p + 1))) None ≡ number_from s from first more bound
     last_more l z = rw (w.same, read_last left p s h (omega arith), ← e, ne_eqb b 0 z) (sym (kept_at (low + scale * b) p bound s h))
 
-    pub no_more : 128 ≤ b → left ≡ 0 → Bad ≡ number_from s from first more bound
+    pub no_more : 128 ≤ b → left ≡ 0 → None ≡ number_from s from first more bound
     no_more l z = rw (w.same, z, read_full p s h (omega arith))
 
     pub reading_step : 128 ≤ b → b < 256 → 0 < left → Reading s from first more (p + 1) (low + scale * (b - 128)) (scale * 128) (left - 1)
@@ -102,16 +102,16 @@ module _ {s : List ℕ} {from first more p low scale left : ℕ} (w : Reading s 
 
 -- A NUMBER BELOW A BOUND
 module _ (n bound at : ℕ) (s : List ℕ) where
-  pub below_end : length s ≤ at → Bad ≡ read_at (group_below n bound) s at
+  pub below_end : length s ≤ at → None ≡ read_at (group_below n bound) s at
   unfolding read_at group_below
   below_end h = rw (read_end n at s h)
 
   module _ (b : ℕ) (h : at < length s) (e : b ≡ get_or s at 0) where
-    pub below_last : b < 128 → cond (ltb b bound) (Value b (at + 1)) Bad ≡ read_at (group_below n bound) s at
+    pub below_last : b < 128 → cond (ltb b bound) (Some (b, (at + 1))) None ≡ read_at (group_below n bound) s at
     unfolding read_at group_below
     below_last l = rw (read_last n at s h (omega arith), ← e) (sym (kept_at b at bound s h))
 
-    pub below_full : 128 ≤ b → n ≡ 0 → Bad ≡ read_at (group_below n bound) s at
+    pub below_full : 128 ≤ b → n ≡ 0 → None ≡ read_at (group_below n bound) s at
     unfolding read_at group_below
     below_full l z = rw (z, read_full at s h (omega arith))
 
@@ -120,14 +120,14 @@ module _ (n bound at : ℕ) (s : List ℕ) where
     below_more l p = rw (read_step n at s p h (omega arith), ← e)
 
 -- a number in one group, below 2^32 in any case
-pub group_one : (b at : ℕ) (s : List ℕ) → at < length s → b ≡ get_or s at 0 → b < 128 → Value b (at + 1) ≡ read_at group s at
+pub group_one : (b at : ℕ) (s : List ℕ) → at < length s → b ≡ get_or s at 0 → b < 128 → Some (b, (at + 1)) ≡ read_at group s at
 unfolding group
 group_one b at s h e l = rw (← below_last 4 (2 ^ 32) at s b h e l, lt-ltb b (2 ^ 32) (omega arith))
 
 -- a number that passes a test
-abbrev passed : (ℕ → Bool) → Read → Read
-passed p (Value v next) = cond (p v) (Value v next) Bad
-passed p Bad = Bad
+abbrev passed : (ℕ → Bool) → MaybeRead → MaybeRead
+passed p (Some (v, next)) = cond (p v) (Some (v, next)) None
+passed p None = None
 
 passed_at : (n at : ℕ) (s : List ℕ) → passed (λ v. leb v n) (read_at group s at) ≡ read_at (at_most n) s at
 unfolding read_at at_most such_that
@@ -138,11 +138,11 @@ passed_at n at s = go (group.get (drop at s))
     go (some r) = by_cases (leb r.0 n) (λ e. rw e) (λ e. rw e)
 
 module _ (n at : ℕ) (s : List ℕ) where
-  pub most_none : Bad ≡ read_at group s at → Bad ≡ read_at (at_most n) s at
+  pub most_none : None ≡ read_at group s at → None ≡ read_at (at_most n) s at
   most_none e = ap (passed (λ v. leb v n)) e ∙ passed_at n at s
 
-  pub most_within : (v next : ℕ) → Value v next ≡ read_at group s at → v ≤ n → Value v next ≡ read_at (at_most n) s at
+  pub most_within : (v next : ℕ) → Some (v, next) ≡ read_at group s at → v ≤ n → Some (v, next) ≡ read_at (at_most n) s at
   most_within v next e h = rw (← passed_at n at s, ← e, le-leb v n h)
 
-  pub most_over : (v next : ℕ) → Value v next ≡ read_at group s at → n < v → Bad ≡ read_at (at_most n) s at
+  pub most_over : (v next : ℕ) → Some (v, next) ≡ read_at group s at → n < v → None ≡ read_at (at_most n) s at
   most_over v next e h = rw (← passed_at n at s, ← e, lt-leb v n h)

@@ -1,15 +1,17 @@
 -- Writing: one store more, one value after another, and that the count of groups allowed does not matter. Assumes nothing.
 use mathlib.Core.Path.{◌≡◌, refl, sym, ◌∙◌, ap}
 use mathlib.Core.Bool.{cond}
-use mathlib.Core.List.{List, [], ◌∷◌, ◌++◌}
-use Prim.Native.Nat.{ℕ, zero, suc, ◌+◌, ◌*◌, ◌/◌, ◌%◌, ◌^◌, ◌<◌, ◌≤◌}
+use mathlib.Core.List.{List, [], ◌∷◌, ◌++◌, append_assoc}
+use Prim.Native.Nat.{ℕ, zero, suc, ◌+◌, ◌-◌, ◌*◌, ◌/◌, ◌%◌, ◌^◌, ◌<◌, ◌≤◌}
 use native.Mathlib.Nat.{pow-suc}
 use native.Mathlib.Numerals.{add-one}
 use native.Mathlib.Omega.{arith}
 use lib.Dec.{ltb}
-use lib.ListN.{length, set, length-append, length-set}
+use lib.ListN.{length, take, drop, set, length-append, length-set}
 use lib.Seq.{sets, set_out, length-sets}
+use borrow.Rule.Slice.PartMut.{put_mid, Post-is}
 use borrow.Author.Tests.{lt-ltb, le-ltb}
+use Rattle.std.proofs.lemmas.List.Edits.{sets-eq}
 use Rattle.model.specs.Layouts.{groups}
 use Rattle.groups.specs.Slices.{Stored}
 
@@ -22,6 +24,17 @@ pub stored_then : {l m n a b : List ℕ} {at mid next : ℕ} → Stored l at a m
 stored_then {l} {m} {n} {a} {b} {at} {mid} {next} p q = record {
   slice = q.slice ∙ rw (p.slice, p.past) (sets_after l at a b);
   past = let k = length-append a b in omega arith;
+}
+
+-- put at once, in a part of the bytes' length
+pub stored_part : (l : List ℕ) (at : ℕ) {bytes ys : List ℕ} {next : ℕ} → next ≡ at + length bytes → next ≤ length l → ys ≡ bytes
+    → Stored l at bytes (put_mid at (next - at) l ys) next
+stored_part l at {bytes} {ys} {next} k h e = record {
+  slice =
+      ap (λ (z : List ℕ). put_mid at (next - at) l z) e
+      ∙ ap (λ (z : List ℕ). take at l ++ (bytes ++ z)) (Post-is at next l (omega arith) ∙ ap (λ (z : ℕ). drop z l) k)
+      ∙ sym (sets-eq bytes l at (omega arith) ∙ append_assoc (take at l) bytes _);
+  past = k;
 }
 
 -- a slice keeps its length

@@ -1,21 +1,23 @@
 -- Layouts at a place of a slice: what a reader answers, and what a writer leaves. Assumes nothing.
-use Rattle.std.specs.Prelude.{◌≡◌, not, List, ℕ, ◌+◌, ◌*◌, ◌-◌, ltb, eqb, length, drop}
+use Rattle.std.specs.Prelude.{◌≡◌, not, List, ℕ, ◌+◌, ◌*◌, ◌-◌, ltb, eqb, length, drop, None, Some, Option as Optional}
 use Rattle.std.proofs.Math.Option.{Option, none, some}
 use Rattle.std.proofs.lemmas.List.Edits.{sets}
 use Rattle.model.specs.Values.{code}
 use Rattle.model.specs.Layouts.{Layout, then, when, as_type, read_groups}
 use Rattle.model.specs.Image.{label_in}
 use Rattle.model.specs.Messages.{label}
-use Rattle.groups.specs.declared.Read.{Read}
-use Rattle.groups.specs.declared.Read.TheVariants.{Value, Bad}
+
+-- a value that was read and the place past it, or that none stands there
+abbrev pub MaybeRead : Type 0
+MaybeRead = Optional (ℕ × ℕ)
 
 -- what was read of a slice of n bytes: the value, and the place past it, which the bytes that are left tell
-abbrev pub as_read : ℕ → Option (ℕ × List ℕ) → Read
-as_read n none = Bad
-as_read n (some r) = Value r.0 (n - length r.1)
+abbrev pub as_read : ℕ → Option (ℕ × List ℕ) → MaybeRead
+as_read n none = None
+as_read n (some r) = Some (r.0, (n - length r.1))
 
 -- what a layout reads at a place of a slice
-unfoldable pub read_at : Layout ℕ → List ℕ → ℕ → Read
+unfoldable pub read_at : Layout ℕ → List ℕ → ℕ → MaybeRead
 read_at l s at = as_read (length s) (l.get (drop at s))
 
 -- bytes written into a slice at a place: the slice afterwards, and the place past them
@@ -37,5 +39,5 @@ abbrev pub kept : ℕ → Option (ℕ × List ℕ) → Option (ℕ × List ℕ)
 kept bound r = then r (λ v rest. when (ltb v bound) (some (v, rest)))
 
 -- a number below a bound whose first group gave a low part, and whose other groups stand at a place: one and at most so many more
-abbrev pub number_from : List ℕ → ℕ → ℕ → ℕ → ℕ → Read
+abbrev pub number_from : List ℕ → ℕ → ℕ → ℕ → ℕ → MaybeRead
 number_from s at first more bound = as_read (length s) (kept bound (over first 128 (read_groups more (drop at s))))

@@ -25,37 +25,14 @@ const LAST_MAKER: u64 = 15;
 const LAST_POSITION: u64 = 4095;
 
 // The value that was read and the place past it, or that no value stands there.
-#[derive(Clone, Copy)]
-pub enum Read {
-    Value(u64, usize),
-    Bad,
-}
-
-// Wider numbers, by functions of their own: a cast in place would ask for its bound at each use.
-fn size(x: u8) -> usize
-    ensures { result ≡ x }
-{
-    x as usize
-}
-
-fn wide(x: u8) -> u64
-    ensures { (result ≡ x) × (result < 256) }
-{
-    x as u64
-}
-
-fn widen(x: u32) -> u64
-    ensures { result ≡ x }
-{
-    x as u64
-}
+pub type Read = Option<(u64, usize)>;
 
 // How many groups a number takes.
 pub fn group_count(v: u32) -> usize
     ensures { result ≡ group_count v }
 {
     let n = (32 - u32::leading_zeros(v)) as usize;
-    size(COUNTS[n])
+    usize::from(COUNTS[n])
 }
 
 // A byte, where the output has room for it.
@@ -123,7 +100,7 @@ pub fn put_group(out: &mut [u8], at: usize, v: u32) -> usize
     requires { at + length (group.put v) < 2 ^ 63 }
     ensures { Stored out.old at (group.put v) out.new result }
 {
-    put_number(out, at, widen(v))
+    put_number(out, at, u64::from(v))
 }
 
 // A serial, whose bound is one of its own.
@@ -137,13 +114,9 @@ pub fn put_serial(out: &mut [u8], at: usize, v: u64) -> usize
 
 // A value that was read, where it lies below its bound.
 fn keep(v: u64, next: usize, bound: u64) -> Read
-    ensures { result ≡ cond (ltb v bound) (Read.Value v next) Read.Bad }
+    ensures { result ≡ cond (ltb v bound) (Some (v, next)) None }
 {
-    if v < bound {
-        Read::Value(v, next)
-    } else {
-        Read::Bad
-    }
+    if v < bound { Some((v, next)) } else { None }
 }
 
 // The groups after the first of a number: first is what that one gave, and at most more follow the one at from.
@@ -153,27 +126,25 @@ fn read_more(s: &[u8], from: usize, first: u64, more: u32, bound: u64) -> Read
     requires more_bound { more < 8 }
     ensures { result ≡ number_from s.now from first more bound }
 {
-    let mut p = from;
     let mut low = first;
     let mut scale: u64 = 128;
     let mut left = more;
-    while p < s.len() {
-        let b = wide(s[p]);
+    for p in from..s.len() {
+        let b = u64::from(s[p]);
         if b < 128 {
             if b == 0 {
-                return Read::Bad;
+                return None;
             }
             return keep(low + scale * b, p + 1, bound);
         }
         if left == 0 {
-            return Read::Bad;
+            return None;
         }
         low += scale * (b - 128);
         scale = scale * 128;
         left -= 1;
-        p += 1;
     }
-    Read::Bad
+    None
 }
 
 // A number below a bound, in one group and at most so many more.
@@ -182,14 +153,14 @@ pub fn read_below(s: &[u8], at: usize, more: u32, bound: u64) -> Read
     ensures { result ≡ read_at (group_below more bound) s.now at }
 {
     if s.len() <= at {
-        return Read::Bad;
+        return None;
     }
-    let b = wide(s[at]);
+    let b = u64::from(s[at]);
     if b < 128 {
         return keep(b, at + 1, bound);
     }
     if more == 0 {
-        return Read::Bad;
+        return None;
     }
     read_more(s, at + 1, b - 128, more - 1, bound)
 }
@@ -199,9 +170,9 @@ pub fn read_group(s: &[u8], at: usize) -> Read
     ensures { result ≡ read_at group s.now at }
 {
     if at < s.len() {
-        let b = wide(s[at]);
+        let b = u64::from(s[at]);
         if b < 128 {
-            return Read::Value(b, at + 1);
+            return Some((b, at + 1));
         }
     }
     read_below(s, at, 4, 4294967296)
@@ -218,46 +189,27 @@ pub fn read_serial(s: &[u8], at: usize) -> Read
 pub fn read_at_most(s: &[u8], at: usize, most: u64) -> Read
     ensures { result ≡ read_at (at_most most) s.now at }
 {
-    let Read::Value(v, next) = read_group(s, at) else {
-        return Read::Bad;
-    };
-    if v <= most {
-        Read::Value(v, next)
-    } else {
-        Read::Bad
-    }
+    let (v, next) = read_group(s, at)?;
+    if v <= most { Some((v, next)) } else { None }
 }
 
 // Eight bytes that end inside the output.
-// Invariant: what is left of the word, put where the next byte goes, gives the same slice in the end.
 fn put_word(out: &mut [u8], at: usize, word: u64) -> usize
     requires { at + 8 ≤ length out.old }
     ensures { Stored out.old at (coordinate.put word) out.new result }
 {
-    let mut p = at;
-    let mut x = word;
-    let mut left: u32 = 8;
-    while 0 < left {
-        out[p] = (x % 256) as u8;
-        x = x / 256;
-        p += 1;
-        left -= 1;
-    }
-    p
+    out[at..at + 8].copy_from_slice(&word.to_le_bytes());
+    at + 8
 }
 
-// Eight bytes that may end outside. Invariant: as above.
+// Eight bytes that may end outside. Invariant: the bytes before b are put, up to p.
 fn put_word_across(out: &mut [u8], at: usize, word: u64) -> usize
     requires { at + 8 < 2 ^ 63 }
     ensures { Stored out.old at (coordinate.put word) out.new result }
 {
     let mut p = at;
-    let mut x = word;
-    let mut left: u32 = 8;
-    while 0 < left {
-        p = put_byte(out, p, (x % 256) as u8);
-        x = x / 256;
-        left -= 1;
+    for b in word.to_le_bytes() {
+        p = put_byte(out, p, b);
     }
     p
 }
@@ -279,16 +231,16 @@ pub fn put_coordinate(out: &mut [u8], at: usize, word: u64) -> usize
 // The word whose eight bytes stand at a place.
 fn word_at(s: &[u8], at: usize) -> u64
     requires { at + 8 ≤ length s.now }
-    ensures { Read.Value result (at + 8) ≡ read_at coordinate s.now at }
+    ensures { Some (result, at + 8) ≡ read_at coordinate s.now at }
 {
-    let a = wide(s[at]);
-    let b = wide(s[at + 1]);
-    let c = wide(s[at + 2]);
-    let d = wide(s[at + 3]);
-    let e = wide(s[at + 4]);
-    let f = wide(s[at + 5]);
-    let g = wide(s[at + 6]);
-    let h = wide(s[at + 7]);
+    let a = u64::from(s[at]);
+    let b = u64::from(s[at + 1]);
+    let c = u64::from(s[at + 2]);
+    let d = u64::from(s[at + 3]);
+    let e = u64::from(s[at + 4]);
+    let f = u64::from(s[at + 5]);
+    let g = u64::from(s[at + 6]);
+    let h = u64::from(s[at + 7]);
     a + 256 * (b + 256 * (c + 256 * (d + 256 * (e + 256 * (f + 256 * (g + 256 * h))))))
 }
 
@@ -297,12 +249,12 @@ pub fn read_coordinate(s: &[u8], at: usize) -> Read
     ensures { result ≡ read_at coordinate s.now at }
 {
     if s.len() < 8 {
-        return Read::Bad;
+        return None;
     }
     if s.len() - 8 < at {
-        return Read::Bad;
+        return None;
     }
-    Read::Value(word_at(s, at), at + 8)
+    Some((word_at(s, at), at + 8))
 }
 
 // The label with a code.
@@ -319,14 +271,8 @@ pub fn put_label(out: &mut [u8], at: usize, code: u64) -> usize
 pub fn read_label(s: &[u8], at: usize) -> Read
     ensures { result ≡ read_at label_code s.now at }
 {
-    let Read::Value(maker, past_maker) = read_at_most(s, at, LAST_MAKER) else {
-        return Read::Bad;
-    };
-    let Read::Value(number, past_number) = read_group(s, past_maker) else {
-        return Read::Bad;
-    };
-    let Read::Value(position, next) = read_at_most(s, past_number, LAST_POSITION) else {
-        return Read::Bad;
-    };
-    Read::Value((maker * NUMBERS + number) * POSITIONS + position, next)
+    let (maker, past_maker) = read_at_most(s, at, LAST_MAKER)?;
+    let (number, past_number) = read_group(s, past_maker)?;
+    let (position, next) = read_at_most(s, past_number, LAST_POSITION)?;
+    Some(((maker * NUMBERS + number) * POSITIONS + position, next))
 }

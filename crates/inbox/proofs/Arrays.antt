@@ -1,4 +1,6 @@
 -- Arrays that hold what was read: one entry more, and the darts of a face. Assumes nothing.
+use Rattle.std.specs.Prelude.{None, Some}
+use Rattle.groups.specs.Slices.{MaybeRead}
 use mathlib.Core.Path.{◌≡◌, refl, sym, ◌∙◌, ap, subst}
 use mathlib.Core.List.{List, [], ◌∷◌, ◌++◌, append_assoc, append-nil}
 use Prim.Native.Nat.{ℕ, zero, suc, ◌+◌, ◌≤◌, ◌<◌}
@@ -7,8 +9,6 @@ use lib.ListN.{length, take, set, replicate, length-append, length-set, length-m
 use lib.Seq.{take-suc-set}
 use Rattle.laws.proofs.Members.{map_append}
 use Rattle.model.specs.Messages.{FaceDart, face_dart}
-use Rattle.groups.specs.declared.Read.{Read}
-use Rattle.groups.specs.declared.Read.TheVariants.{Value, Bad}
 use Rattle.codec.specs.Taken.{Took}
 use Rattle.inbox.specs.Inbox.{most, Sides, Grown, DartSaid, DartRead, DartsIn, DartsRead}
 use Rattle.codec.proofs.Taking.{SoFar, so_far_start, so_far_more, so_far_stop, so_far_end}
@@ -88,20 +88,20 @@ module _ {s : List ℕ} {at start size : ℕ} {v x b z : List ℕ} {i p : ℕ} {
         };
       }
 
-  pub darts_more : {v'' x'' : List ℕ} {r : Read} {u q : ℕ} → r ≡ Value u q → i < start + size → DartRead s p i v' v'' x' x'' r
+  pub darts_more : {v'' x'' : List ℕ} {r : MaybeRead} {u q : ℕ} → r ≡ Some (u, q) → i < start + size → DartRead s p i v' v'' x' x'' r
       → Darts s at start size v x b z (i + 1) q v'' x'' (set b' i start) (set z' i size)
   darts_more {v''} {x''} {r} {u} {q} e h t = go (subst (DartSaid s p i v' v'' x' x'') e t.said)
     where
-      go : DartSaid s p i v' v'' x' x'' (Value u q) → Darts s at start size v x b z (i + 1) q v'' x'' (set b' i start) (set z' i size)
+      go : DartSaid s p i v' v'' x' x'' (Some (u, q)) → Darts s at start size v x b z (i + 1) q v'' x'' (set b' i start) (set z' i size)
       go t = rw (t.2, t.3) (darts_on h t.1)
 
-  pub darts_stop : {v'' x'' : List ℕ} {r : Read} → r ≡ Bad → i < start + size → DartRead s p i v' v'' x' x'' r → DartsRead s at start size v v'' x x'' b b' z z' Bad
+  pub darts_stop : {v'' x'' : List ℕ} {r : MaybeRead} → r ≡ None → i < start + size → DartRead s p i v' v'' x' x'' r → DartsRead s at start size v v'' x x'' b b' z z' None
   darts_stop {v''} {x''} {r} e h t = go (subst (DartSaid s p i v' v'' x' x'') e t.said)
     where
-      go : DartSaid s p i v' v'' x' x'' Bad → DartsRead s at start size v v'' x x'' b b' z z' Bad
+      go : DartSaid s p i v' v'' x' x'' None → DartsRead s at start size v v'' x x'' b b' z z' None
       go t = record { said = (so_far_stop face_dart size w.so_far (let k = w.count in omega arith) t.0, rw (t.1, t.2) w.sides) }
 
-  pub darts_end : {n : ℕ} → n ≡ size → start + size ≤ i → DartsRead s at start size v v' x x' b b' z z' (Value n p)
+  pub darts_end : {n : ℕ} → n ≡ size → start + size ≤ i → DartsRead s at start size v v' x x' b b' z z' (Some (n, p))
   darts_end e h =
       let k : length w.ds ≡ size = let j = w.count in let f = w.fits in omega arith in
       record { said = (e, (w.ds, so_far_end face_dart size w.so_far k, k, w.inside)) }

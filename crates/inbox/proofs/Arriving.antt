@@ -1,4 +1,5 @@
 -- What a slice is as a message, from what its readers say. Assumes nothing.
+use Rattle.std.specs.Prelude.{None, Option, Some}
 use mathlib.Core.Path.{◌≡◌, refl, sym, ◌∙◌, subst}
 use mathlib.Core.Logic.{◌≢◌}
 use mathlib.Core.List.{List}
@@ -12,17 +13,9 @@ use Rattle.model.specs.Layouts.{whole, unframed}
 use Rattle.model.specs.Messages.{Transfer, transfer, Update, update, a_transfer, an_update, no_message, message_in, size_all}
 use Rattle.laws.proofs.Tests.{and_right}
 use Rattle.reader.specs.declared.Head.{Head}
-use Rattle.reader.specs.declared.HeadOrNot.{HeadOrNot}
-use Rattle.reader.specs.declared.HeadOrNot.TheVariants as head
 use Rattle.inbox.specs.declared.message.Front.{Front}
-use Rattle.inbox.specs.declared.message.FrontOrNot.{FrontOrNot}
-use Rattle.inbox.specs.declared.message.FrontOrNot.TheVariants as front
 use Rattle.inbox.specs.declared.message.Tail.{Tail}
-use Rattle.inbox.specs.declared.message.TailOrNot.{TailOrNot}
-use Rattle.inbox.specs.declared.message.TailOrNot.TheVariants as tail
 use Rattle.inbox.specs.declared.message.Update.{Update as UpdateOutline}
-use Rattle.inbox.specs.declared.message.UpdateOrNot.{UpdateOrNot}
-use Rattle.inbox.specs.declared.message.UpdateOrNot.TheVariants as outline
 use Rattle.inbox.specs.declared.received.Received.TheVariants as received
 use Rattle.inbox.specs.Inbox.{Sides, Sized, points_in}
 use Rattle.inbox.specs.Outlines.{Headed, Framed, HeadSaid, HeadRead, Fronted, FrontSaid, FrontRead, Tailed, TailSaid, TailRead, OutlineSaid, UpdateRead}
@@ -44,18 +37,18 @@ module _ (s : List ℕ) where
   is_none e f = rw (e, f)
 
 -- no head, no message
-pub no_head : {s v x b z : List ℕ} {r : HeadOrNot} → Sides v x b z → r ≡ head.Not → HeadRead s r → MessageRead s v x b z received.Nothing
+pub no_head : {s v x b z : List ℕ} {r : Option Head} → Sides v x b z → r ≡ None → HeadRead s r → MessageRead s v x b z received.Nothing
 no_head {s} w e d = let f = subst (HeadSaid s) e d.said in record { sides = w; said = is_none s f.0 f.1 }
 
-pub head_there : {s : List ℕ} {r : HeadOrNot} {h : Head} → r ≡ head.Head h → HeadRead s r → Framed s h
+pub head_there : {s : List ℕ} {r : Option Head} {h : Head} → r ≡ Some h → HeadRead s r → Framed s h
 head_there {s} e d = subst (HeadSaid s) e d.said
 
 -- BOTH HALVES OF A TRANSFER
-module _ {s : List ℕ} {p : ℕ} {v x b z : List ℕ} {r : FrontOrNot} (w : FrontRead s p v x b z r) where
-  pub front_missing : r ≡ front.Not → whole transfer (drop p s) ≡ none
+module _ {s : List ℕ} {p : ℕ} {v x b z : List ℕ} {r : Option Front} (w : FrontRead s p v x b z r) where
+  pub front_missing : r ≡ None → whole transfer (drop p s) ≡ none
   front_missing e = no_front s p (subst (FrontSaid s p v x b z) e w.said)
 
-  pub front_there : {f : Front} → r ≡ front.Front f → Fronted s p v x b z f
+  pub front_there : {f : Front} → r ≡ Some f → Fronted s p v x b z f
   front_there e = subst (FrontSaid s p v x b z) e w.said
 
 module _ {s : List ℕ} {p : ℕ} {v x b z : List ℕ} {f : Front} (w : Fronted s p v x b z f) where
@@ -66,19 +59,19 @@ module _ {s : List ℕ} {p : ℕ} {v x b z : List ℕ} {f : Front} (w : Fronted 
   front_fits sides =
       omega (arith, w.darts_are, leb-true (size_all w.fs) 512 (and_right (leb 1 (size_all w.fs)) _ w.some_there), sides.sizes_size)
 
-  module _ {r : TailOrNot} (l : TailRead w.fs s f.next r) where
-    pub tail_missing : r ≡ tail.Not → whole transfer (drop p s) ≡ none
+  module _ {r : Option Tail} (l : TailRead w.fs s f.next r) where
+    pub tail_missing : r ≡ None → whole transfer (drop p s) ≡ none
     tail_missing e = no_tail w.took (subst (TailSaid w.fs s f.next) e l.said)
 
-    pub tail_there : {t : Tail} → r ≡ tail.Tail t → Tailed w.fs s f.next t
+    pub tail_there : {t : Tail} → r ≡ Some t → Tailed w.fs s f.next t
     tail_there e = subst (TailSaid w.fs s f.next) e l.said
 
 -- AN UPDATE
-module _ {s : List ℕ} {p : ℕ} {r : UpdateOrNot} (w : UpdateRead s p r) where
-  pub update_missing : r ≡ outline.Not → whole update (drop p s) ≡ none
+module _ {s : List ℕ} {p : ℕ} {r : Option UpdateOutline} (w : UpdateRead s p r) where
+  pub update_missing : r ≡ None → whole update (drop p s) ≡ none
   update_missing e = subst (OutlineSaid s p) e w.said
 
-  update_there : {o : UpdateOutline} → r ≡ outline.Update o → OutlineSaid s p (outline.Update o)
+  update_there : {o : UpdateOutline} → r ≡ Some o → OutlineSaid s p (Some o)
   update_there e = subst (OutlineSaid s p) e w.said
 
 -- BY THE KIND
@@ -102,7 +95,7 @@ module _ {s : List ℕ} {h : Head} (f : Framed s h) where
   pub nothing_read : {v x b z : List ℕ} → Sides v x b z → whole transfer (drop h.body s) ≡ none → whole update (drop h.body s) ≡ none → MessageRead s v x b z received.Nothing
   nothing_read w t u = record { sides = w; said = is_none s (f.transfer_as ∙ t) (f.update_as ∙ u) }
 
-  pub update_read : {v x b z : List ℕ} {r : UpdateOrNot} {o : UpdateOutline} → Sides v x b z → h.kind ≡ 2 → r ≡ outline.Update o → UpdateRead s h.body r
+  pub update_read : {v x b z : List ℕ} {r : Option UpdateOutline} {o : UpdateOutline} → Sides v x b z → h.kind ≡ 2 → r ≡ Some o → UpdateRead s h.body r
       → MessageRead s v x b z (received.Update o)
   update_read w k e d =
       let u = update_there d e in

@@ -1,4 +1,5 @@
 -- Whole messages by their parts: what is missing, and what is told when nothing is. Assumes nothing.
+use Rattle.std.specs.Prelude.{None, Option, Some}
 use mathlib.Core.Path.{◌≡◌, refl, sym, ◌∙◌, ap, subst}
 use mathlib.Core.Logic.{◌≢◌}
 use mathlib.Core.Bool.{false, cond}
@@ -13,24 +14,15 @@ use Rattle.model.specs.Layouts.{Layout, Read, then, when, group, at_most, exactl
 use Rattle.model.specs.Messages.{FaceDart, face_dart, point, label, Part1, part1, Part2, part2, Part3, part3, Part4, part4, Transfer, transfer, update}
 use Rattle.laws.proofs.Lists.{drop_end}
 use Rattle.theory.proofs.LayoutLaws.{same_value, then_some}
-use Rattle.groups.specs.declared.Read.{Read as Answer}
-use Rattle.groups.specs.declared.Read.TheVariants.{Value, Bad}
+use Rattle.groups.specs.Slices.{MaybeRead}
 use Rattle.laws.proofs.Tests.{by_cases}
 use Rattle.groups.proofs.Labels.{at_most_bound}
 use Rattle.inbox.specs.declared.faces.Faces.{Faces}
-use Rattle.inbox.specs.declared.faces.FacesOrNot.{FacesOrNot}
-use Rattle.inbox.specs.declared.faces.FacesOrNot.TheVariants as faces
 use Rattle.reader.specs.declared.Head.{Head}
-use Rattle.reader.specs.declared.HeadOrNot.TheVariants as head
 use Rattle.reader.proofs.Heads.{Missing, no_length, no_kind, no_from, no_to, Four}
 use Rattle.inbox.specs.declared.message.Counted.{Counted}
-use Rattle.inbox.specs.declared.message.CountedOrNot.{CountedOrNot}
-use Rattle.inbox.specs.declared.message.CountedOrNot.TheVariants as entries
 use Rattle.inbox.specs.declared.message.Front.{Front}
-use Rattle.inbox.specs.declared.message.FrontOrNot.TheVariants as front
 use Rattle.inbox.specs.declared.message.Tail.{Tail}
-use Rattle.inbox.specs.declared.message.TailOrNot.TheVariants as tail
-use Rattle.inbox.specs.declared.message.UpdateOrNot.TheVariants as outline
 use Rattle.codec.specs.Taken.{Took, PassSaid, Passes}
 use Rattle.inbox.specs.Inbox.{Sides, FacesSaid, FacesRead, PointsSaid, PointsRead, points_in, some_darts}
 use Rattle.inbox.specs.Outlines.{Headed, HeadRead, Entries, CountedSaid, CountedRead, Fronted, FrontRead, tail_layout, Tailed, TailRead, UpdateRead}
@@ -106,24 +98,24 @@ module _ {B : Type 0} (k : ℕ) (m : Layout B) where
 
 -- COUNTED ENTRIES
 module _ {A : Type 0} (l : Layout A) where
-  pub counted_bad : (s : List ℕ) (at : ℕ) → group.get (drop at s) ≡ none → CountedRead l s at entries.Not
+  pub counted_bad : (s : List ℕ) (at : ℕ) → group.get (drop at s) ≡ none → CountedRead l s at None
   counted_bad s at e = record { said = counted_none l (drop at s) e }
 
-  pub counted_short : {s : List ℕ} {at n p : ℕ} {t : Answer} → Took group s at n p → t ≡ Bad → Passes (times n l) s p t → CountedRead l s at entries.Not
+  pub counted_short : {s : List ℕ} {at n p : ℕ} {t : MaybeRead} → Took group s at n p → t ≡ None → Passes (times n l) s p t → CountedRead l s at None
   unfolding times
   counted_short {s} {at} {n} {p} {t} w e d = record { said = counted_half l w (subst (PassSaid (times n l) s p) e d.said) }
 
-  pub counted_missing : {s : List ℕ} {at : ℕ} {r : CountedOrNot} → r ≡ entries.Not → CountedRead l s at r → (counted l).get (drop at s) ≡ none
+  pub counted_missing : {s : List ℕ} {at : ℕ} {r : Option Counted} → r ≡ None → CountedRead l s at r → (counted l).get (drop at s) ≡ none
   counted_missing {s} {at} e w = subst (CountedSaid l s at) e w.said
 
-  pub counted_there : {s : List ℕ} {at : ℕ} {r : CountedOrNot} {c : Counted} → r ≡ entries.Counted c → CountedRead l s at r → Entries l s at c.count c.first c.next
+  pub counted_there : {s : List ℕ} {at : ℕ} {r : Option Counted} {c : Counted} → r ≡ Some c → CountedRead l s at r → Entries l s at c.count c.first c.next
   counted_there {s} {at} e w = subst (CountedSaid l s at) e w.said
 
-  pub counted_good : {s : List ℕ} {at n p m q : ℕ} {t : Answer} → Took group s at n p → t ≡ Value m q → Passes (times n l) s p t
-      → CountedRead l s at (entries.Counted (record { count = n; first = p; next = q }))
+  pub counted_good : {s : List ℕ} {at n p m q : ℕ} {t : MaybeRead} → Took group s at n p → t ≡ Some (m, q) → Passes (times n l) s p t
+      → CountedRead l s at (Some (record { count = n; first = p; next = q }))
   counted_good {s} {at} {n} {p} {m} {q} {t} w e d = record { said = go (subst (PassSaid (times n l) s p) e d.said) }
     where
-      go : PassSaid (times n l) s p (Value m q) → Entries l s at n p q
+      go : PassSaid (times n l) s p (Some (m, q)) → Entries l s at n p q
       go d = record { items = d.0; count_read = w; items_read = d.1 }
 
   pub entries_took : {s : List ℕ} {at n p q : ℕ} (e : Entries l s at n p q) → Took (counted l) s at e.items q
@@ -153,18 +145,18 @@ faces_no {s} {at} {n} {p} w h = go ((counted (counted face_dart)).get (drop at s
     go (some r) e = let t = counted_items (counted face_dart) r.0 r.1 w e in rw (h r.0 t.0 t.1)
 
 -- PART 1 OF A TRANSFER
-pub front_bad : {s : List ℕ} {at : ℕ} {v x b z : List ℕ} → Sides v x b z → part1.get (drop at s) ≡ none → FrontRead s at v x b z front.Not
+pub front_bad : {s : List ℕ} {at : ℕ} {v x b z : List ℕ} → Sides v x b z → part1.get (drop at s) ≡ none → FrontRead s at v x b z None
 front_bad w n = record { sides = w; said = n }
 
-pub no_points : {s : List ℕ} {at from to p : ℕ} {r : Answer} → Headed 1 s at from to p → r ≡ Bad → PointsRead s p r → part1.get (drop at s) ≡ none
+pub no_points : {s : List ℕ} {at from to p : ℕ} {r : MaybeRead} → Headed 1 s at from to p → r ≡ None → PointsRead s p r → part1.get (drop at s) ≡ none
 unfolding part1
 no_points {s} {at} {from} {to} {p} h e w = head_half 1 (counted point ⊕ faces_layout) h (both_none (counted point) faces_layout (drop p s) (subst (PointsSaid s p) e w.said))
 
 -- the points, and where they end
-pub took_points : {s : List ℕ} {p n from : ℕ} {r : Answer} → r ≡ Value n from → PointsRead s p r → Took (counted point) s p (points_in s from n) (from + 24 * n)
+pub took_points : {s : List ℕ} {p n from : ℕ} {r : MaybeRead} → r ≡ Some (n, from) → PointsRead s p r → Took (counted point) s p (points_in s from n) (from + 24 * n)
 took_points {s} {p} {n} {from} e w = go (subst (PointsSaid s p) e w.said)
   where
-    go : PointsSaid s p (Value n from) → Took (counted point) s p (points_in s from n) (from + 24 * n)
+    go : PointsSaid s p (Some (n, from)) → Took (counted point) s p (points_in s from n) (from + 24 * n)
     go d = record { value = d.0; onward = (let a = d.1 in omega arith); within = d.2 }
 
 module _ (m start : ℕ) {s : List ℕ} {at from to p : ℕ} (h : Headed 1 s at from to p) (points : Took (counted point) s p (points_in s start m) (start + 24 * m)) where
@@ -173,20 +165,20 @@ module _ (m start : ℕ) {s : List ℕ} {at from to p : ℕ} (h : Headed 1 s at 
   no_count e = head_half 1 (counted point ⊕ faces_layout) h (both_half (counted point) faces_layout points
       (such_none (counted (counted face_dart)) some_darts (drop (start + 24 * m) s) (counted_none (counted face_dart) (drop (start + 24 * m) s) e)))
 
-  module _ {n first : ℕ} {v x b z : List ℕ} {r : FacesOrNot} (count : Took group s (start + 24 * m) n first) (w : FacesRead s first n v x b z r) where
-    pub no_faces : r ≡ faces.Not → FrontRead s at v x b z front.Not
+  module _ {n first : ℕ} {v x b z : List ℕ} {r : Option Faces} (count : Took group s (start + 24 * m) n first) (w : FacesRead s first n v x b z r) where
+    pub no_faces : r ≡ None → FrontRead s at v x b z None
     unfolding part1
     no_faces e = record {
       sides = w.sides;
       said = head_half 1 (counted point ⊕ faces_layout) h (both_half (counted point) faces_layout points (faces_no count (subst (FacesSaid s first n v x b z) e w.said)));
     }
 
-    pub front_read : {f : Faces} → r ≡ faces.Faces f
-        → FrontRead s at v x b z (front.Front (record { hollow = f.hollow; from = from; to = to; vertices = m; points = start; darts = f.darts; next = f.next }))
+    pub front_read : {f : Faces} → r ≡ Some f
+        → FrontRead s at v x b z (Some (record { hollow = f.hollow; from = from; to = to; vertices = m; points = start; darts = f.darts; next = f.next }))
     unfolding part1
     front_read {f} e = record { sides = w.sides; said = go (subst (FacesSaid s first n v x b z) e w.said) }
       where
-        go : FacesSaid s first n v x b z (faces.Faces f)
+        go : FacesSaid s first n v x b z (Some f)
             → Fronted s at v x b z (record { hollow = f.hollow; from = from; to = to; vertices = m; points = start; darts = f.darts; next = f.next })
         go y = record {
           fs = y.0;
@@ -202,7 +194,7 @@ module _ (m start : ℕ) {s : List ℕ} {at from to p : ℕ} (h : Headed 1 s at 
 
 -- PARTS 2 TO 4
 module _ (fs : List (List FaceDart)) where
-  pub tail_bad : {s : List ℕ} {at : ℕ} → (tail_layout fs).get (drop at s) ≡ none → TailRead fs s at tail.Not
+  pub tail_bad : {s : List ℕ} {at : ℕ} → (tail_layout fs).get (drop at s) ≡ none → TailRead fs s at None
   tail_bad {s} {at} n = record { said = whole_none (tail_layout fs) (drop at s) n }
 
   pub no_second : (s : List ℕ) (at : ℕ) → (counted part2).get (drop at s) ≡ none → (tail_layout fs).get (drop at s) ≡ none
@@ -223,11 +215,11 @@ module _ (fs : List (List FaceDart)) where
         taken = both_took (counted part2) (counted part3 ⊕ counted (part4 fs)) (entries_took part2 e2)
             (both_took (counted part3) (counted (part4 fs)) (entries_took part3 e3) (entries_took (part4 fs) e4))
 
-        pub tail_more : c4.next ≢ length s → TailRead fs s at tail.Not
+        pub tail_more : c4.next ≢ length s → TailRead fs s at None
         tail_more e = record { said = whole_more (tail_layout fs) taken e }
 
         pub tail_read : c4.next ≡ length s
-            → TailRead fs s at (tail.Tail (record { count2 = c2.count; part2 = c2.first; count3 = c3.count; part3 = c3.first; count4 = c4.count; part4 = c4.first }))
+            → TailRead fs s at (Some (record { count2 = c2.count; part2 = c2.first; count3 = c3.count; part3 = c3.first; count4 = c4.count; part4 = c4.first }))
         tail_read e = record {
           said = record {
             second = e2.items;
@@ -283,7 +275,7 @@ unfolding transfer
 transfer_took w y = whole_took transfer (as_took _ _ _ (pair_took part1 (λ h. tail_layout h.1.1.1.1) w.took y.took)) refl
 
 -- AN UPDATE
-pub update_bad : {s : List ℕ} {at : ℕ} → whole update (drop at s) ≡ none → UpdateRead s at outline.Not
+pub update_bad : {s : List ℕ} {at : ℕ} → whole update (drop at s) ≡ none → UpdateRead s at None
 update_bad n = record { said = n }
 
 no_update : (s : List ℕ) (at : ℕ) → (headed_by 2 (at_most 15 ⊕ counted label)).get (drop at s) ≡ none → whole update (drop at s) ≡ none
@@ -306,7 +298,7 @@ module _ {s : List ℕ} {at from to p : ℕ} (h : Headed 2 s at from to p) where
       pub update_more : c.next ≢ length s → whole update (drop at s) ≡ none
       update_more e = whole_more update told e
 
-      pub update_good : c.next ≡ length s → UpdateRead s at (outline.Update (record { from = from; to = to; block = block; count = c.count; labels = c.first }))
+      pub update_good : c.next ≡ length s → UpdateRead s at (Some (record { from = from; to = to; block = block; count = c.count; labels = c.first }))
       update_good e = record {
         said = (
           record { from = from; to = to; block = block; labels = w.items },
@@ -366,19 +358,19 @@ frame_as l {s} {n} {p} w = rw (w.value, length-drop p s)
 frame_lacks : {A : Type 0} (l : Layout A) {s : List ℕ} {n p : ℕ} → Took group s 0 n p → whole l (drop p s) ≡ none → unframed l s ≡ none
 frame_lacks l {s} {n} {p} w e = frame_as l w ∙ by_cases (eqb (length s - p) n) (λ t. rw t e) (λ t. rw t refl)
 
-pub head_unread : (s : List ℕ) → group.get (drop 0 s) ≡ none → HeadRead s head.Not
+pub head_unread : (s : List ℕ) → group.get (drop 0 s) ≡ none → HeadRead s None
 unfolding unframed
 head_unread s e = record { said = (rw e, rw e) }
 
 module _ {s : List ℕ} {n p : ℕ} (w : Took group s 0 n p) where
-  pub head_neither : Neither s p → HeadRead s head.Not
+  pub head_neither : Neither s p → HeadRead s None
   head_neither d = record { said = (frame_lacks transfer w d.no_transfer, frame_lacks update w d.no_update_there) }
 
-  pub frame_wrong : length s - p ≢ n → HeadRead s head.Not
+  pub frame_wrong : length s - p ≢ n → HeadRead s None
   frame_wrong h = let e = ne_eqb (length s - p) n h in record { said = (frame_as transfer w ∙ rw e, frame_as update w ∙ rw e) }
 
 -- one of the four numbers is missing
-pub head_missing : {s : List ℕ} → Missing s → HeadRead s head.Not
+pub head_missing : {s : List ℕ} → Missing s → HeadRead s None
 head_missing {s} (no_length e) = head_unread s e
 head_missing {s} (no_kind n p a e) = head_neither (took_reads a) (neither_kind e)
 head_missing {s} (no_from n p k q a b e) = head_neither (took_reads a) (neither_from (took_reads b) (no_block_read s q e))
@@ -391,18 +383,18 @@ module _ {s : List ℕ} {h : Head} (w : Four s h) where
   pub body_within : h.body ≤ length s
   body_within = w.length_read.within
 
-  pub head_wrong : length s - h.body ≢ h.length → HeadRead s head.Not
+  pub head_wrong : length s - h.body ≢ h.length → HeadRead s None
   head_wrong e = frame_wrong (took_reads w.length_read) e
 
-  pub from_none : 16 ≤ h.from → HeadRead s head.Not
+  pub from_none : 16 ≤ h.from → HeadRead s None
   from_none e = head_neither (took_reads w.length_read) (neither_from (took_reads w.kind_read) (no_such_block (took_reads w.from_read) (omega arith)))
 
-  pub to_none : h.from < 16 → 16 ≤ h.to → HeadRead s head.Not
+  pub to_none : h.from < 16 → 16 ≤ h.to → HeadRead s None
   to_none f e =
       head_neither (took_reads w.length_read)
       (neither_to (took_reads w.kind_read) (took_block (took_reads w.from_read) (omega arith)) (no_such_block (took_reads w.to_read) (omega arith)))
 
-  pub head_framed : length s - h.body ≡ h.length → h.from < 16 → h.to < 16 → HeadRead s (head.Head h)
+  pub head_framed : length s - h.body ≡ h.length → h.from < 16 → h.to < 16 → HeadRead s (Some h)
   head_framed e f t =
       let k = eq-eqb (length s - h.body) h.length e in
       record {

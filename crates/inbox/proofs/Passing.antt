@@ -1,4 +1,6 @@
 -- Entries by the part that they are of, and those of part 4, whose labels are as many as a face has darts. Assumes nothing.
+use Rattle.std.specs.Prelude.{None, Some}
+use Rattle.groups.specs.Slices.{MaybeRead}
 use mathlib.Core.Path.{◌≡◌, refl, sym, ◌∙◌, ap, subst}
 use mathlib.Core.Logic.{⊎_elim}
 use mathlib.Core.List.{List, [], ◌∷◌, ◌++◌}
@@ -13,8 +15,6 @@ use Rattle.model.specs.Values.{Label}
 use Rattle.model.specs.Layouts.{Layout, group, at_most, such_that, ◌⊗◌, ◌⊕◌, times}
 use Rattle.model.specs.Messages.{FaceDart, label, part4, size_all, size_at}
 use Rattle.laws.proofs.Tests.{lt_or_ge}
-use Rattle.groups.specs.declared.Read.{Read}
-use Rattle.groups.specs.declared.Read.TheVariants.{Value, Bad}
 use Rattle.codec.specs.Taken.{Took, PassSaid, Passes}
 use Rattle.codec.proofs.Taking.{both_none, both_half, both_took, pair_none, pair_half, pair_took, as_none, as_took, such_none, such_refused, such_took}
 use Rattle.inbox.specs.declared.parts.Part.{Part}
@@ -23,7 +23,7 @@ use Rattle.inbox.specs.Inbox.{Sized, sizes_of}
 use Rattle.inbox.proofs.Arrays.{length_replicate}
 
 -- by the part that an entry is of
-pub entry_as : {p q : Part} {s : List ℕ} {at : ℕ} {r : Read} → p ≡ q → (fs : List (List FaceDart)) → Passes (entry q fs) s at r → Passes (entry p fs) s at r
+pub entry_as : {p q : Part} {s : List ℕ} {at : ℕ} {r : MaybeRead} → p ≡ q → (fs : List (List FaceDart)) → Passes (entry q fs) s at r → Passes (entry p fs) s at r
 entry_as {p} {q} {s} {at} {r} e fs d = subst (λ (x : Part). Passes (entry x fs) s at r) (sym e) d
 
 -- PART 4
@@ -62,7 +62,7 @@ module _ (fs : List (List FaceDart)) where
   abbrev after : ℕ → Layout (ℕ × List Label)
   after i = at_most 15 ⊕ times (size_at i fs) label
 
-  pub part4_none : (s : List ℕ) (at : ℕ) → group.get (drop at s) ≡ none → Passes (part4 fs) s at Bad
+  pub part4_none : (s : List ℕ) (at : ℕ) → group.get (drop at s) ≡ none → Passes (part4 fs) s at None
   unfolding part4
   part4_none s at e = record {
     said = as_none (λ p. record { index = p.0; other = p.1.0; labels = p.1.1 }) (λ k. (k.index, (k.other, k.labels))) (inside ⊗ after) (drop at s)
@@ -70,7 +70,7 @@ module _ (fs : List (List FaceDart)) where
   }
 
   module _ {s : List ℕ} {at p i : ℕ} (w : Took group s at i p) where
-    pub part4_outside : {darts : ℕ} {sizes : List ℕ} → Sized fs darts sizes → darts ≤ i → Passes (part4 fs) s at Bad
+    pub part4_outside : {darts : ℕ} {sizes : List ℕ} → Sized fs darts sizes → darts ≤ i → Passes (part4 fs) s at None
     unfolding part4
     part4_outside z h = record {
       said = as_none (λ p. record { index = p.0; other = p.1.0; labels = p.1.1 }) (λ k. (k.index, (k.other, k.labels))) (inside ⊗ after) (drop at s)
@@ -81,22 +81,22 @@ module _ (fs : List (List FaceDart)) where
       took_index : Took inside s at i p
       took_index = such_took group (λ i. ltb i (size_all fs)) w (lt-ltb i (size_all fs) (let a = z.count in omega arith))
 
-      pub part4_alone : (at_most 15).get (drop p s) ≡ none → Passes (part4 fs) s at Bad
+      pub part4_alone : (at_most 15).get (drop p s) ≡ none → Passes (part4 fs) s at None
       unfolding part4
       part4_alone e = record {
         said = as_none (λ p. record { index = p.0; other = p.1.0; labels = p.1.1 }) (λ k. (k.index, (k.other, k.labels))) (inside ⊗ after) (drop at s)
             (pair_half inside after took_index (both_none (at_most 15) (times (size_at i fs) label) (drop p s) e));
       }
 
-      part4_said : {q o : ℕ} → Took (at_most 15) s p o q → (r : Read) → PassSaid (times (size_at i fs) label) s q r → PassSaid (part4 fs) s at r
+      part4_said : {q o : ℕ} → Took (at_most 15) s p o q → (r : MaybeRead) → PassSaid (times (size_at i fs) label) s q r → PassSaid (part4 fs) s at r
       unfolding part4
-      part4_said t Bad d = as_none (λ p. record { index = p.0; other = p.1.0; labels = p.1.1 }) (λ k. (k.index, (k.other, k.labels))) (inside ⊗ after) (drop at s)
+      part4_said t None d = as_none (λ p. record { index = p.0; other = p.1.0; labels = p.1.1 }) (λ k. (k.index, (k.other, k.labels))) (inside ⊗ after) (drop at s)
           (pair_half inside after took_index (both_half (at_most 15) (times (size_at i fs) label) t d))
-      part4_said {q} {o} t (Value u n) d = (
+      part4_said {q} {o} t (Some (u, n)) d = (
         record { index = i; other = o; labels = d.0 },
         as_took (λ p. record { index = p.0; other = p.1.0; labels = p.1.1 }) (λ k. (k.index, (k.other, k.labels))) (inside ⊗ after)
             (pair_took inside after took_index (both_took (at_most 15) (times (size_at i fs) label) t d.1)),
       )
 
-      pub part4_pass : {q o n : ℕ} {r : Read} → Took (at_most 15) s p o q → n ≡ get_or sizes i 0 → Passes (times n label) s q r → Passes (part4 fs) s at r
+      pub part4_pass : {q o n : ℕ} {r : MaybeRead} → Took (at_most 15) s p o q → n ≡ get_or sizes i 0 → Passes (times n label) s q r → Passes (part4 fs) s at r
       part4_pass {q} {o} {n} {r} t e d = record { said = part4_said t r (subst (λ (k : ℕ). PassSaid (times k label) s q r) (e ∙ size_there z h) d.said) }

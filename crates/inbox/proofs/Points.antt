@@ -1,4 +1,5 @@
 -- Points where they stand: a word, a point and all points are taken where there is room, and not otherwise. Assumes nothing.
+use Rattle.std.specs.Prelude.{None, Some}
 use mathlib.Core.Path.{◌≡◌, refl, ap}
 use mathlib.Core.Logic.{⊎_elim}
 use mathlib.Core.List.{List, [], ◌∷◌}
@@ -13,7 +14,6 @@ use Rattle.model.specs.Messages.{point}
 use Rattle.laws.proofs.Tests.{lt_or_ge}
 use Rattle.laws.proofs.Tables.{tab_cong}
 use Rattle.theory.proofs.LayoutLaws.{bytes_none}
-use Rattle.groups.specs.declared.Read.TheVariants.{Value, Bad}
 use Rattle.codec.specs.Taken.{Took}
 use Rattle.inbox.specs.Inbox.{word_in, point_in, points_in, PointsRead}
 use Rattle.codec.proofs.Taking.{both_none, both_half, both_took, as_none, as_took, counted_half, counted_took}
@@ -81,8 +81,8 @@ points_none s (suc n) from h k = ⊎_elim
     (λ a. rw ((point_took s from a).value, points_none s n (from + 24) a (omega arith)))
     (lt_or_ge (length s) (from + 24))
 
-pub points_read : {s : List ℕ} {at n from : ℕ} → Took group s at n from → from + 24 * n ≤ length s → PointsRead s at (Value n from)
+pub points_read : {s : List ℕ} {at n from : ℕ} → Took group s at n from → from + 24 * n ≤ length s → PointsRead s at (Some (n, from))
 points_read {s} {at} {n} {from} w h = record { said = ((counted_took point w (points_took s n from h)).value, w.onward, h) }
 
-pub points_bad : {s : List ℕ} {at n from : ℕ} → Took group s at n from → length s < from + 24 * n → PointsRead s at Bad
+pub points_bad : {s : List ℕ} {at n from : ℕ} → Took group s at n from → length s < from + 24 * n → PointsRead s at None
 points_bad {s} {at} {n} {from} w h = record { said = counted_half point w (points_none s n from w.within h) }

@@ -1,15 +1,13 @@
 -- What the readers of a message answer, and what their arrays hold then. Assumes nothing.
-use Rattle.std.specs.Prelude.{◌≡◌, Bool, true, false, ◌&&◌, List, [], ◌∷◌, ◌++◌, map, ℕ, ◌+◌, ◌*◌, ◌≤◌, ◌<◌, leb, eqb, length, take, drop, set, replicate}
+use Rattle.groups.specs.Slices.{MaybeRead}
+use Rattle.std.specs.Prelude.{◌≡◌, Bool, true, false, ◌&&◌, List, [], ◌∷◌, ◌++◌, map, ℕ, ◌+◌, ◌*◌, ◌≤◌, ◌<◌, leb, eqb, length, take, drop, set, replicate, None, Option, Some}
 use Rattle.std.proofs.Math.Option.{none, some}
 use Rattle.model.specs.Lists.{any, tab, concat}
 use Rattle.model.specs.Values.{Point, message_darts}
 use Rattle.model.specs.Layouts.{Read as Reading, coordinate, times, counted, get_all}
 use Rattle.model.specs.Messages.{FaceDart, face_dart, point, size_all}
-use Rattle.groups.specs.declared.Read.{Read}
-use Rattle.groups.specs.declared.Read.TheVariants.{Value, Bad}
 use Rattle.codec.specs.Taken.{Took}
-use Rattle.inbox.specs.declared.faces.FacesOrNot.{FacesOrNot}
-use Rattle.inbox.specs.declared.faces.FacesOrNot.TheVariants as faces
+use Rattle.inbox.specs.declared.faces.Faces.{Faces}
 
 -- darts that a message may have
 abbrev pub most : ℕ
@@ -30,11 +28,11 @@ unfoldable pub points_in : List ℕ → ℕ → ℕ → List Point
 points_in s from n = tab (λ k. point_in s (from + 24 * k)) n
 
 -- how many there are, and where the first one stands
-abbrev pub PointsSaid : List ℕ → ℕ → Read → Type 0
-PointsSaid s at Bad = (counted point).get (drop at s) ≡ none
-PointsSaid s at (Value n from) = ((counted point).get (drop at s) ≡ some (points_in s from n, drop (from + 24 * n) s)) × (at ≤ from) × (from + 24 * n ≤ length s)
+abbrev pub PointsSaid : List ℕ → ℕ → MaybeRead → Type 0
+PointsSaid s at None = (counted point).get (drop at s) ≡ none
+PointsSaid s at (Some (n, from)) = ((counted point).get (drop at s) ≡ some (points_in s from n, drop (from + 24 * n) s)) × (at ≤ from) × (from + 24 * n ≤ length s)
 
-pub record PointsRead (s : List ℕ) (at : ℕ) (r : Read) : Type 0 where
+pub record PointsRead (s : List ℕ) (at : ℕ) (r : MaybeRead) : Type 0 where
   pub said : PointsSaid s at r
 
 -- FACES in arrays by index: vertex and serial of each dart, the index of its face's start, the size of its face
@@ -50,11 +48,11 @@ pub record Grown (i : ℕ) (l before after : List ℕ) : Type 0 where
   pub size : length after ≡ length before
 
 -- the dart with index i
-abbrev pub DartSaid : List ℕ → ℕ → ℕ → List ℕ → List ℕ → List ℕ → List ℕ → Read → Type 0
-DartSaid s at i v v' x x' Bad = (face_dart.get (drop at s) ≡ none) × (v' ≡ v) × (x' ≡ x)
-DartSaid s at i v v' x x' (Value w next) = (d : FaceDart) × Took face_dart s at d next × (v' ≡ set v i d.vertex) × (x' ≡ set x i d.serial)
+abbrev pub DartSaid : List ℕ → ℕ → ℕ → List ℕ → List ℕ → List ℕ → List ℕ → MaybeRead → Type 0
+DartSaid s at i v v' x x' None = (face_dart.get (drop at s) ≡ none) × (v' ≡ v) × (x' ≡ x)
+DartSaid s at i v v' x x' (Some (w, next)) = (d : FaceDart) × Took face_dart s at d next × (v' ≡ set v i d.vertex) × (x' ≡ set x i d.serial)
 
-pub record DartRead (s : List ℕ) (at i : ℕ) (v v' x x' : List ℕ) (r : Read) : Type 0 where
+pub record DartRead (s : List ℕ) (at i : ℕ) (v v' x x' : List ℕ) (r : MaybeRead) : Type 0 where
   pub said : DartSaid s at i v v' x x' r
 
 -- darts of a face of some size from index i on
@@ -64,19 +62,19 @@ pub record DartsIn (i size : ℕ) (ds : List FaceDart) (v v' x x' b b' z z' : Li
   pub starts : Grown i (replicate (length ds) i) b b'
   pub sizes : Grown i (replicate (length ds) size) z z'
 
-abbrev pub DartsSaid : List ℕ → ℕ → ℕ → ℕ → List ℕ → List ℕ → List ℕ → List ℕ → List ℕ → List ℕ → List ℕ → List ℕ → Read → Type 0
-DartsSaid s at i size v v' x x' b b' z z' Bad = (get_all face_dart size (drop at s) ≡ none) × Sides v' x' b' z'
-DartsSaid s at i size v v' x x' b b' z z' (Value n next) = (n ≡ size) × ((ds : List FaceDart) × Took (times size face_dart) s at ds next × (length ds ≡ size) × DartsIn i size ds v v' x x' b b' z z')
+abbrev pub DartsSaid : List ℕ → ℕ → ℕ → ℕ → List ℕ → List ℕ → List ℕ → List ℕ → List ℕ → List ℕ → List ℕ → List ℕ → MaybeRead → Type 0
+DartsSaid s at i size v v' x x' b b' z z' None = (get_all face_dart size (drop at s) ≡ none) × Sides v' x' b' z'
+DartsSaid s at i size v v' x x' b b' z z' (Some (n, next)) = (n ≡ size) × ((ds : List FaceDart) × Took (times size face_dart) s at ds next × (length ds ≡ size) × DartsIn i size ds v v' x x' b b' z z')
 
-pub record DartsRead (s : List ℕ) (at i size : ℕ) (v v' x x' b b' z z' : List ℕ) (r : Read) : Type 0 where
+pub record DartsRead (s : List ℕ) (at i size : ℕ) (v v' x x' b b' z z' : List ℕ) (r : MaybeRead) : Type 0 where
   pub said : DartsSaid s at i size v v' x x' b b' z z' r
 
 -- a face whose start has index i: where none is read, there is none that fits
-abbrev pub FaceSaid : List ℕ → ℕ → ℕ → List ℕ → List ℕ → List ℕ → List ℕ → List ℕ → List ℕ → List ℕ → List ℕ → Read → Type 0
-FaceSaid s at i v v' x x' b b' z z' Bad = ((f : List FaceDart) (rest : List ℕ) → (counted face_dart).get (drop at s) ≡ some (f, rest) → most < i + length f) × Sides v' x' b' z'
-FaceSaid s at i v v' x x' b b' z z' (Value n next) = (f : List FaceDart) × Took (counted face_dart) s at f next × (n ≡ length f) × (i + length f ≤ most) × DartsIn i n f v v' x x' b b' z z'
+abbrev pub FaceSaid : List ℕ → ℕ → ℕ → List ℕ → List ℕ → List ℕ → List ℕ → List ℕ → List ℕ → List ℕ → List ℕ → MaybeRead → Type 0
+FaceSaid s at i v v' x x' b b' z z' None = ((f : List FaceDart) (rest : List ℕ) → (counted face_dart).get (drop at s) ≡ some (f, rest) → most < i + length f) × Sides v' x' b' z'
+FaceSaid s at i v v' x x' b b' z z' (Some (n, next)) = (f : List FaceDart) × Took (counted face_dart) s at f next × (n ≡ length f) × (i + length f ≤ most) × DartsIn i n f v v' x x' b b' z z'
 
-pub record FaceRead (s : List ℕ) (at i : ℕ) (v v' x x' b b' z z' : List ℕ) (r : Read) : Type 0 where
+pub record FaceRead (s : List ℕ) (at i : ℕ) (v v' x x' b b' z z' : List ℕ) (r : MaybeRead) : Type 0 where
   pub said : FaceSaid s at i v v' x x' b b' z z' r
 
 -- for each dart the index of its face's start, and the size of its face
@@ -103,12 +101,12 @@ abbrev pub is_hollow : List (List FaceDart) → Bool
 is_hollow fs = any (λ f. eqb (length f) 0) fs
 
 -- the faces, or that there are none of so many darts
-abbrev pub FacesSaid : List ℕ → ℕ → ℕ → List ℕ → List ℕ → List ℕ → List ℕ → FacesOrNot → Type 0
-FacesSaid s at count v x b z faces.Not = (fs : List (List FaceDart)) (rest : List ℕ) → get_all (counted face_dart) count (drop at s) ≡ some (fs, rest) → some_darts fs ≡ false
-FacesSaid s at count v x b z (faces.Faces r) =
+abbrev pub FacesSaid : List ℕ → ℕ → ℕ → List ℕ → List ℕ → List ℕ → List ℕ → Option Faces → Type 0
+FacesSaid s at count v x b z None = (fs : List (List FaceDart)) (rest : List ℕ) → get_all (counted face_dart) count (drop at s) ≡ some (fs, rest) → some_darts fs ≡ false
+FacesSaid s at count v x b z (Some r) =
     (fs : List (List FaceDart)) × Took (times count (counted face_dart)) s at fs r.next × (some_darts fs ≡ true) × (r.darts ≡ size_all fs) × (r.hollow ≡ is_hollow fs) × FacesIn fs v x b z
 
-pub record FacesRead (s : List ℕ) (at count : ℕ) (v x b z : List ℕ) (r : FacesOrNot) : Type 0 where
+pub record FacesRead (s : List ℕ) (at count : ℕ) (v x b z : List ℕ) (r : Option Faces) : Type 0 where
   pub sides : Sides v x b z
   pub said : FacesSaid s at count v x b z r
 

@@ -1,25 +1,16 @@
 -- What the readers of whole messages answer: an outline of the message that the layout takes, or that it takes none. Assumes nothing.
-use Rattle.std.specs.Prelude.{◌≡◌, true, List, ℕ, ◌+◌, ◌*◌, ◌≤◌, length, drop}
+use Rattle.std.specs.Prelude.{◌≡◌, true, List, ℕ, ◌+◌, ◌*◌, ◌≤◌, length, drop, None, Option, Some}
 use Rattle.std.proofs.Math.Option.{none, some}
 use Rattle.model.specs.Values.{last_block}
 use Rattle.model.specs.Layouts.{Layout, group, ◌⊕◌, at_most, exactly, times, counted, whole, unframed}
 use Rattle.model.specs.Messages.{FaceDart, Part2, Part3, Part4, Update, transfer, update, label, part1, part2, part3, part4, size_all}
 use Rattle.reader.specs.declared.Head.{Head}
-use Rattle.reader.specs.declared.HeadOrNot.{HeadOrNot}
-use Rattle.reader.specs.declared.HeadOrNot.TheVariants as head
-use Rattle.inbox.specs.declared.message.CountedOrNot.{CountedOrNot}
-use Rattle.inbox.specs.declared.message.CountedOrNot.TheVariants as entries
 use Rattle.inbox.specs.declared.message.Front.{Front}
-use Rattle.inbox.specs.declared.message.FrontOrNot.{FrontOrNot}
-use Rattle.inbox.specs.declared.message.FrontOrNot.TheVariants as front
 use Rattle.inbox.specs.declared.message.Tail.{Tail}
-use Rattle.inbox.specs.declared.message.TailOrNot.{TailOrNot}
-use Rattle.inbox.specs.declared.message.TailOrNot.TheVariants as tail
 use Rattle.inbox.specs.declared.message.Update.{Update as UpdateOutline}
-use Rattle.inbox.specs.declared.message.UpdateOrNot.{UpdateOrNot}
-use Rattle.inbox.specs.declared.message.UpdateOrNot.TheVariants as outline
 use Rattle.codec.specs.Taken.{Took}
 use Rattle.inbox.specs.Inbox.{Sides, FacesIn, points_in, some_darts, is_hollow}
+use Rattle.inbox.specs.declared.message.Counted.{Counted}
 
 -- THE HEAD: kind, sender, receiver
 pub record Headed (k : ℕ) (s : List ℕ) (at from to next : ℕ) : Type 0 where
@@ -39,11 +30,11 @@ pub record Framed (s : List ℕ) (h : Head) : Type 0 where
   pub from_read : Took (at_most last_block) s past h.from after
   pub to_read : Took (at_most last_block) s after h.to h.next
 
-abbrev pub HeadSaid : List ℕ → HeadOrNot → Type 0
-HeadSaid s head.Not = (unframed transfer s ≡ none) × (unframed update s ≡ none)
-HeadSaid s (head.Head h) = Framed s h
+abbrev pub HeadSaid : List ℕ → Option Head → Type 0
+HeadSaid s None = (unframed transfer s ≡ none) × (unframed update s ≡ none)
+HeadSaid s (Some h) = Framed s h
 
-pub record HeadRead (s : List ℕ) (r : HeadOrNot) : Type 0 where
+pub record HeadRead (s : List ℕ) (r : Option Head) : Type 0 where
   pub said : HeadSaid s r
 
 -- A COUNT and so many entries
@@ -52,11 +43,11 @@ pub record Entries {A : Type 0} (l : Layout A) (s : List ℕ) (at count first ne
   pub count_read : Took group s at count first
   pub items_read : Took (times count l) s first items next
 
-abbrev pub CountedSaid : {A : Type 0} → Layout A → List ℕ → ℕ → CountedOrNot → Type 0
-CountedSaid l s at entries.Not = (counted l).get (drop at s) ≡ none
-CountedSaid l s at (entries.Counted c) = Entries l s at c.count c.first c.next
+abbrev pub CountedSaid : {A : Type 0} → Layout A → List ℕ → ℕ → Option Counted → Type 0
+CountedSaid l s at None = (counted l).get (drop at s) ≡ none
+CountedSaid l s at (Some c) = Entries l s at c.count c.first c.next
 
-pub record CountedRead {A : Type 0} (l : Layout A) (s : List ℕ) (at : ℕ) (r : CountedOrNot) : Type 0 where
+pub record CountedRead {A : Type 0} (l : Layout A) (s : List ℕ) (at : ℕ) (r : Option Counted) : Type 0 where
   pub said : CountedSaid l s at r
 
 -- A TRANSFER in two halves: part 1, and parts 2 to 4
@@ -69,11 +60,11 @@ pub record Fronted (s : List ℕ) (at : ℕ) (v x b z : List ℕ) (r : Front) : 
   pub hollow_is : r.hollow ≡ is_hollow fs
   pub inside : FacesIn fs v x b z
 
-abbrev pub FrontSaid : List ℕ → ℕ → List ℕ → List ℕ → List ℕ → List ℕ → FrontOrNot → Type 0
-FrontSaid s at v x b z front.Not = part1.get (drop at s) ≡ none
-FrontSaid s at v x b z (front.Front r) = Fronted s at v x b z r
+abbrev pub FrontSaid : List ℕ → ℕ → List ℕ → List ℕ → List ℕ → List ℕ → Option Front → Type 0
+FrontSaid s at v x b z None = part1.get (drop at s) ≡ none
+FrontSaid s at v x b z (Some r) = Fronted s at v x b z r
 
-pub record FrontRead (s : List ℕ) (at : ℕ) (v x b z : List ℕ) (r : FrontOrNot) : Type 0 where
+pub record FrontRead (s : List ℕ) (at : ℕ) (v x b z : List ℕ) (r : Option Front) : Type 0 where
   pub sides : Sides v x b z
   pub said : FrontSaid s at v x b z r
 
@@ -92,11 +83,11 @@ pub record Tailed (fs : List (List FaceDart)) (s : List ℕ) (at : ℕ) (r : Tai
   pub part3_in : Took (times r.count3 part3) s r.part3 third past3
   pub part4_in : Took (times r.count4 (part4 fs)) s r.part4 fourth past4
 
-abbrev pub TailSaid : List (List FaceDart) → List ℕ → ℕ → TailOrNot → Type 0
-TailSaid fs s at tail.Not = whole (tail_layout fs) (drop at s) ≡ none
-TailSaid fs s at (tail.Tail r) = Tailed fs s at r
+abbrev pub TailSaid : List (List FaceDart) → List ℕ → ℕ → Option Tail → Type 0
+TailSaid fs s at None = whole (tail_layout fs) (drop at s) ≡ none
+TailSaid fs s at (Some r) = Tailed fs s at r
 
-pub record TailRead (fs : List (List FaceDart)) (s : List ℕ) (at : ℕ) (r : TailOrNot) : Type 0 where
+pub record TailRead (fs : List (List FaceDart)) (s : List ℕ) (at : ℕ) (r : Option Tail) : Type 0 where
   pub said : TailSaid fs s at r
 
 -- AN UPDATE
@@ -109,9 +100,9 @@ pub record UpdateOutlined (u : Update) (s : List ℕ) (r : UpdateOutline) : Type
   pub past : ℕ
   pub labels_in : Took (times r.count label) s r.labels u.labels past
 
-abbrev pub OutlineSaid : List ℕ → ℕ → UpdateOrNot → Type 0
-OutlineSaid s at outline.Not = whole update (drop at s) ≡ none
-OutlineSaid s at (outline.Update r) = (u : Update) × (whole update (drop at s) ≡ some u) × UpdateOutlined u s r
+abbrev pub OutlineSaid : List ℕ → ℕ → Option UpdateOutline → Type 0
+OutlineSaid s at None = whole update (drop at s) ≡ none
+OutlineSaid s at (Some r) = (u : Update) × (whole update (drop at s) ≡ some u) × UpdateOutlined u s r
 
-pub record UpdateRead (s : List ℕ) (at : ℕ) (r : UpdateOrNot) : Type 0 where
+pub record UpdateRead (s : List ℕ) (at : ℕ) (r : Option UpdateOutline) : Type 0 where
   pub said : OutlineSaid s at r

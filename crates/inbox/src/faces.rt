@@ -3,7 +3,6 @@ ghost use Rattle.std.specs.Prelude.{◌≡◌, ◌+◌, ◌≤◌, ◌<◌, leng
 ghost use Rattle.inbox.specs.Inbox.{most, PointsRead, DartRead, DartsRead, FaceRead, FacesRead, Sides};
 
 use codec::entry;
-use codec::entry::Faced;
 use groups::Read;
 use memory::header::Header;
 use memory::record::MessageIndex;
@@ -12,14 +11,12 @@ use memory::record::MessageIndex;
 pub fn read_points(s: &[u8], at: usize) -> Read
     ensures { PointsRead s.now at result }
 {
-    let Read::Value(n, from) = reader::read_group(s, at) else {
-        return Read::Bad;
-    };
+    let (n, from) = reader::read_group(s, at)?;
     let room = s.len() - from;
     if ((room / 24) as u64) < n {
-        return Read::Bad;
+        return None;
     }
-    Read::Value(n, from)
+    Some((n, from))
 }
 
 // The vertex and the serial of the dart with index i.
@@ -27,13 +24,11 @@ fn read_dart(s: &[u8], at: usize, i: MessageIndex, vertex: &mut [u64], serial: &
     requires { (i.0 < most) × (length vertex.old ≡ most) × (length serial.old ≡ most) }
     ensures { DartRead s.now at i.0 vertex.old vertex.new serial.old serial.new result }
 {
-    let Faced::Dart(v, x, next) = entry::read_dart(s, at) else {
-        return Read::Bad;
-    };
+    let (v, x, next) = entry::read_dart(s, at)?;
     let n = i.0;
     vertex[n] = v;
     serial[n] = x;
-    Read::Value(x, next)
+    Some((x, next))
 }
 
 // The darts of a face of `size`, whose start has index `start`.
@@ -52,18 +47,14 @@ fn read_darts(
 {
     // The darts before index i are read.
     let first = start.0;
-    let mut i = first;
     let mut p = at;
-    while i < first + size {
-        let Read::Value(x, next) = read_dart(s, p, MessageIndex(i), vertex, serial) else {
-            return Read::Bad;
-        };
+    for i in first..first + size {
+        let (x, next) = read_dart(s, p, MessageIndex(i), vertex, serial)?;
         starts[i] = first;
         sizes[i] = size;
         p = next;
-        i += 1;
     }
-    Read::Value(size as u64, p)
+    Some((size as u64, p))
 }
 
 // A face whose start has index `start`: its size, then its darts. Bad too where the message then has too many.
@@ -79,12 +70,10 @@ fn read_face(
     requires { (start.0 ≤ most) × Sides vertex.old serial.old starts.old sizes.old }
     ensures { FaceRead s.now at start.0 vertex.old vertex.new serial.old serial.new starts.old starts.new sizes.old sizes.new result }
 {
-    let Read::Value(n, past) = reader::read_group(s, at) else {
-        return Read::Bad;
-    };
+    let (n, past) = reader::read_group(s, at)?;
     let room = Header::VOLUME - start.0;
     if (room as u64) < n {
-        return Read::Bad;
+        return None;
     }
     read_darts(s, past, start, n as usize, vertex, serial, starts, sizes)
 }
@@ -97,14 +86,7 @@ pub struct Faces {
     pub next: usize,
 }
 
-// Not: there are no darts, or too many.
-#[derive(Clone, Copy)]
-pub enum FacesOrNot {
-    Faces(Faces),
-    Not,
-}
-
-// So many faces, one after the other.
+// So many faces, one after the other; none where there are no darts, or too many.
 pub fn read_faces(
     s: &[u8],
     at: usize,
@@ -113,36 +95,24 @@ pub fn read_faces(
     serial: &mut [u64],
     starts: &mut [usize],
     sizes: &mut [usize],
-) -> FacesOrNot
+) -> Option<Faces>
     requires { (at ≤ length s.now) × Sides vertex.old serial.old starts.old sizes.old }
     ensures { FacesRead s.now at count vertex.new serial.new starts.new sizes.new result }
 {
-    // All but the last `left` faces are read.
-    let mut left = count;
+    // The first k faces are read.
     let mut hollow = false;
     let mut darts: usize = 0;
     let mut p = at;
-    while 0 < left {
-        let Read::Value(n, next) = read_face(
-            s,
-            p,
-            MessageIndex(darts),
-            vertex,
-            serial,
-            starts,
-            sizes,
-        ) else {
-            return FacesOrNot::Not;
-        };
+    for k in 0..count {
+        let (n, next) = read_face(s, p, MessageIndex(darts), vertex, serial, starts, sizes)?;
         hollow = hollow | (n == 0);
         darts += n as usize;
         p = next;
-        left -= 1;
     }
     if darts == 0 {
-        return FacesOrNot::Not;
+        return None;
     }
-    FacesOrNot::Faces(Faces {
+    Some(Faces {
         hollow,
         darts,
         next: p,

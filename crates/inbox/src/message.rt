@@ -5,31 +5,28 @@ ghost use Rattle.inbox.specs.Inbox.{Sides, Sized};
 ghost use Rattle.inbox.specs.Outlines.{Headed, HeadRead, CountedRead, FrontRead, TailRead, UpdateRead};
 ghost use Rattle.inbox.specs.Parts.{entry};
 
-use crate::faces::FacesOrNot;
 use crate::parts::Part;
 use crate::{faces, parts};
 use groups::Read;
 use memory::header::Header;
-use reader::{Head, HeadOrNot};
+use reader::Head;
 
 // The head of a slice whose first number is the length of the rest, and whose ends are blocks.
-pub fn framed_head(s: &[u8]) -> HeadOrNot
+pub fn framed_head(s: &[u8]) -> Option<Head>
     ensures { HeadRead s.now result }
 {
-    let HeadOrNot::Head(head) = reader::read_head(s) else {
-        return HeadOrNot::Not;
-    };
+    let head = reader::read_head(s)?;
     let rest = s.len() - head.body;
     if rest as u64 != head.length {
-        return HeadOrNot::Not;
+        return None;
     }
     if Header::BLOCKS <= head.from {
-        return HeadOrNot::Not;
+        return None;
     }
     if Header::BLOCKS <= head.to {
-        return HeadOrNot::Not;
+        return None;
     }
-    HeadOrNot::Head(head)
+    Some(head)
 }
 
 // A count, where the first entry stands, and the place past the last.
@@ -40,24 +37,14 @@ pub struct Counted {
     pub next: usize,
 }
 
-#[derive(Clone, Copy)]
-pub enum CountedOrNot {
-    Counted(Counted),
-    Not,
-}
-
 // A part, in a message whose darts have faces of these sizes.
-fn counted_part(s: &[u8], at: usize, part: Part, darts: usize, sizes: &[usize]) -> CountedOrNot
+fn counted_part(s: &[u8], at: usize, part: Part, darts: usize, sizes: &[usize]) -> Option<Counted>
     requires { darts ≤ length sizes.now }
     ensures { (fs : List (List FaceDart)) → Sized fs darts sizes.now → CountedRead (entry part fs) s.now at result }
 {
-    let Read::Value(count, first) = reader::read_group(s, at) else {
-        return CountedOrNot::Not;
-    };
-    let Read::Value(n, next) = parts::pass_entries(s, first, part, count, darts, sizes) else {
-        return CountedOrNot::Not;
-    };
-    CountedOrNot::Counted(Counted { count, first, next })
+    let (count, first) = reader::read_group(s, at)?;
+    let (n, next) = parts::pass_entries(s, first, part, count, darts, sizes)?;
+    Some(Counted { count, first, next })
 }
 
 // Part 1 of a transfer: its ends, where its points stand, how many darts it has, and the place past them.
@@ -72,12 +59,6 @@ pub struct Front {
     pub next: usize,
 }
 
-#[derive(Clone, Copy)]
-pub enum FrontOrNot {
-    Front(Front),
-    Not,
-}
-
 // Part 1 of a transfer after its head; its darts go into the arrays.
 pub fn read_front(
     s: &[u8],
@@ -86,21 +67,14 @@ pub fn read_front(
     serial: &mut [u64],
     starts: &mut [usize],
     sizes: &mut [usize],
-) -> FrontOrNot
+) -> Option<Front>
     requires { Headed 1 s.now head.body head.from head.to head.next × Sides vertex.old serial.old starts.old sizes.old }
     ensures { FrontRead s.now head.body vertex.new serial.new starts.new sizes.new result }
 {
-    let Read::Value(vertices, points) = faces::read_points(s, head.next) else {
-        return FrontOrNot::Not;
-    };
-    let Read::Value(count, first) = reader::read_group(s, points + 24 * (vertices as usize)) else {
-        return FrontOrNot::Not;
-    };
-    let FacesOrNot::Faces(faces) = faces::read_faces(s, first, count, vertex, serial, starts, sizes)
-    else {
-        return FrontOrNot::Not;
-    };
-    FrontOrNot::Front(Front {
+    let (vertices, points) = faces::read_points(s, head.next)?;
+    let (count, first) = reader::read_group(s, points + 24 * (vertices as usize))?;
+    let faces = faces::read_faces(s, first, count, vertex, serial, starts, sizes)?;
+    Some(Front {
         hollow: faces.hollow,
         from: head.from,
         to: head.to,
@@ -122,33 +96,19 @@ pub struct Tail {
     pub part4: usize,
 }
 
-#[derive(Clone, Copy)]
-pub enum TailOrNot {
-    Tail(Tail),
-    Not,
-}
-
 // Parts 2 to 4 of a transfer of so many darts, to the last byte.
-pub fn read_tail(s: &[u8], at: usize, darts: usize, sizes: &[usize]) -> TailOrNot
+pub fn read_tail(s: &[u8], at: usize, darts: usize, sizes: &[usize]) -> Option<Tail>
     requires { darts ≤ length sizes.now }
     ensures { (fs : List (List FaceDart)) → Sized fs darts sizes.now → TailRead fs s.now at result }
 {
-    let CountedOrNot::Counted(second) = counted_part(s, at, Part::Second, darts, sizes) else {
-        return TailOrNot::Not;
-    };
-    let CountedOrNot::Counted(third) = counted_part(s, second.next, Part::Third, darts, sizes)
-    else {
-        return TailOrNot::Not;
-    };
-    let CountedOrNot::Counted(fourth) = counted_part(s, third.next, Part::Fourth, darts, sizes)
-    else {
-        return TailOrNot::Not;
-    };
+    let second = counted_part(s, at, Part::Second, darts, sizes)?;
+    let third = counted_part(s, second.next, Part::Third, darts, sizes)?;
+    let fourth = counted_part(s, third.next, Part::Fourth, darts, sizes)?;
     let last = fourth.next;
     if last != s.len() {
-        return TailOrNot::Not;
+        return None;
     }
-    TailOrNot::Tail(Tail {
+    Some(Tail {
         count2: second.count,
         part2: second.first,
         count3: third.count,
@@ -168,29 +128,19 @@ pub struct Update {
     pub labels: usize,
 }
 
-#[derive(Clone, Copy)]
-pub enum UpdateOrNot {
-    Update(Update),
-    Not,
-}
-
 // An update after its head, to the last byte.
-pub fn read_update(s: &[u8], head: Head) -> UpdateOrNot
+pub fn read_update(s: &[u8], head: Head) -> Option<Update>
     requires { Headed 2 s.now head.body head.from head.to head.next }
     ensures { UpdateRead s.now head.body result }
 {
-    let Read::Value(block, past) = reader::read_at_most(s, head.next, Header::BLOCKS - 1) else {
-        return UpdateOrNot::Not;
-    };
+    let (block, past) = reader::read_at_most(s, head.next, Header::BLOCKS - 1)?;
     // An update has no faces, so no sizes.
     let none = [0usize; 1];
-    let CountedOrNot::Counted(labels) = counted_part(s, past, Part::Labels, 0, &none[0..1]) else {
-        return UpdateOrNot::Not;
-    };
+    let labels = counted_part(s, past, Part::Labels, 0, &none[0..1])?;
     if labels.next != s.len() {
-        return UpdateOrNot::Not;
+        return None;
     }
-    UpdateOrNot::Update(Update {
+    Some(Update {
         from: head.from,
         to: head.to,
         block,

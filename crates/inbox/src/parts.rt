@@ -16,15 +16,11 @@ pub fn pass_part4(s: &[u8], at: usize, darts: usize, sizes: &[usize]) -> Read
     requires { darts ≤ length sizes.now }
     ensures { (fs : List (List FaceDart)) → Sized fs darts sizes.now → Passes (part4 fs) s.now at result }
 {
-    let Read::Value(index, past) = reader::read_group(s, at) else {
-        return Read::Bad;
-    };
+    let (index, past) = reader::read_group(s, at)?;
     if darts as u64 <= index {
-        return Read::Bad;
+        return None;
     }
-    let Read::Value(other, from) = reader::read_at_most(s, past, Header::BLOCKS - 1) else {
-        return Read::Bad;
-    };
+    let (other, from) = reader::read_at_most(s, past, Header::BLOCKS - 1)?;
     let size = place::size_at(sizes, MessageIndex(index as usize));
     entry::pass_labels(s, from, size as u64)
 }
@@ -71,15 +67,11 @@ pub fn pass_entries(
     requires { (at ≤ length s.now) × (darts ≤ length sizes.now) }
     ensures { (fs : List (List FaceDart)) → Sized fs darts sizes.now → Passes (times count (entry part fs)) s.now at result }
 {
-    // All but the last `left` are passed.
-    let mut left = count;
+    // The first k are passed.
     let mut p = at;
-    while 0 < left {
-        let Read::Value(index, next) = pass_entry(s, p, part, darts, sizes) else {
-            return Read::Bad;
-        };
+    for k in 0..count {
+        let (index, next) = pass_entry(s, p, part, darts, sizes)?;
         p = next;
-        left -= 1;
     }
-    Read::Value(count, p)
+    Some((count, p))
 }

@@ -3,8 +3,7 @@ ghost use Rattle.inbox.specs.Inbox.{Sides};
 ghost use Rattle.inbox.specs.Arrived.{MessageRead};
 
 use crate::message;
-use crate::message::{Front, FrontOrNot, Tail, TailOrNot, Update, UpdateOrNot};
-use reader::HeadOrNot;
+use crate::message::{Front, Tail, Update};
 
 #[derive(Clone, Copy)]
 pub enum Received {
@@ -24,21 +23,20 @@ pub fn message_in(
     requires { Sides vertex.old serial.old starts.old sizes.old }
     ensures { MessageRead s.now vertex.new serial.new starts.new sizes.new result }
 {
-    let HeadOrNot::Head(head) = message::framed_head(s) else {
+    let Some(head) = message::framed_head(s) else {
         return Received::Nothing;
     };
     if head.kind == 1 {
-        let FrontOrNot::Front(front) = message::read_front(s, head, vertex, serial, starts, sizes)
-        else {
+        let Some(front) = message::read_front(s, head, vertex, serial, starts, sizes) else {
             return Received::Nothing;
         };
-        let TailOrNot::Tail(tail) = message::read_tail(s, front.next, front.darts, sizes) else {
+        let Some(tail) = message::read_tail(s, front.next, front.darts, sizes) else {
             return Received::Nothing;
         };
         return Received::Transfer(front, tail);
     }
     if head.kind == 2 {
-        let UpdateOrNot::Update(update) = message::read_update(s, head) else {
+        let Some(update) = message::read_update(s, head) else {
             return Received::Nothing;
         };
         return Received::Update(update);

@@ -47,11 +47,9 @@ pub fn sew(
     ensures { Sewn block.old kinds.now links.now ranks.now old.now new.now k block.new }
 {
     // Those before i are.
-    let mut i = 0;
-    while i < k {
+    for i in 0..k {
         let r = place::rank_at(ranks, MessageIndex(i));
         let p = place::new_at(new, r);
         sew_at(block, kinds[i], links[i], old, p);
-        i += 1;
     }
 }

@@ -1,7 +1,7 @@
 -- Keys are put into slots one by one: a key that is there already is met. Assumes nothing.
 use mathlib.Core.Path.{◌≡◌, sym, ap, ◌∙◌}
 use mathlib.Core.List.{List}
-use mathlib.Core.Logic.{inl, inr, ⊎_elim}
+use mathlib.Core.Logic.{⊎_elim}
 use Prim.Native.Nat.{ℕ, ◌+◌, ◌-◌, ◌≤◌, ◌<◌}
 use native.Mathlib.Omega.{arith}
 use native.Mathlib.Nat.{eq-or-lt_of_le}
@@ -10,39 +10,13 @@ use lib.Seq.{get_or-set_same, get_or-set_other}
 use Rattle.laws.proofs.Tests.{lt_or_ge, eq_or_ne, last_or_below}
 use Rattle.laws.proofs.Lists.{getD_zeros}
 use Rattle.keyset.specs.Slots.{slot_of, key_at, Probed, KeysApart, Searched}
-use Rattle.keyset.specs.declared.Search.TheVariants.{Distinct, Repeated}
+use Rattle.keyset.specs.declared.Search.TheVariants.{Repeated}
 
 -- A SEARCH that has come to t
 pub record Going (keys table : List ℕ) (x h t : ℕ) : Type 0 where
   pub from : h ≤ t
   pub to : t ≤ h + 64
   pub passed : (u : ℕ) → h ≤ u → u < t → (get_or table u 0 ≡ 0 → ⊥) × (key_at keys table u ≡ x → ⊥)
-
-pub going_none : (keys table : List ℕ) (x h : ℕ) → Going keys table x h h
-going_none keys table x h = record { from = omega arith; to = omega arith; passed = λ u a b. absurd (omega arith) }
-
-module _ {keys table : List ℕ} {x h t : ℕ} (w : Going keys table x h t) {v : ℕ} (ev : v ≡ get_or table t 0) where
-  pub slot_le : {n : ℕ} → ((u : ℕ) → get_or table u 0 ≤ n) → v ≤ n
-  slot_le h = rw ev (h t)
-
-  pub index_lt : {n : ℕ} → ((u : ℕ) → get_or table u 0 ≤ n) → (v ≡ 0 → ⊥) → v - 1 < n
-  index_lt h z = ⊎_elim (λ l. omega (arith, slot_le h, l)) (λ l. absurd (z (omega (arith, l)))) (lt_or_ge 0 v)
-
-  pub at_zero : v ≡ 0 → Probed keys table x h t
-  at_zero e = record { from = w.from; to = w.to; passed = w.passed; found = λ _. inl (sym ev ∙ e) }
-
-  pub at_key : get_or keys (v - 1) 0 ≡ x → Probed keys table x h t
-  at_key e = record { from = w.from; to = w.to; passed = w.passed; found = λ _. inr (ap (λ (y : ℕ). get_or keys (y - 1) 0) (sym ev) ∙ e) }
-
-  pub going_more : t < h + 64 → (v ≡ 0 → ⊥) → (get_or keys (v - 1) 0 ≡ x → ⊥) → Going keys table x h (t + 1)
-  going_more l a b = record {
-    from = omega (arith, w.from);
-    to = omega arith;
-    passed = λ u p q. ⊎_elim (λ e. rw e (λ z. a (ev ∙ z), λ z. b (ap (λ (y : ℕ). get_or keys (y - 1) 0) ev ∙ z))) (λ q'. w.passed u p q') (last_or_below q);
-  }
-
-pub at_end : {keys table : List ℕ} {x h t : ℕ} → Going keys table x h t → h + 64 ≤ t → Probed keys table x h t
-at_end w l = record { from = w.from; to = w.to; passed = w.passed; found = λ b. absurd (omega arith) }
 
 -- THE FIRST i KEYS, each in a slot
 pub record Spread (keys table : List ℕ) (i : ℕ) : Type 0 where
@@ -115,6 +89,3 @@ module _ {keys table : List ℕ} {i : ℕ} (w : Spread keys table i) {x h s : �
         where
           different_lt : (a b : ℕ) → b ≤ a → (a ≡ b → ⊥) → b < a
           different_lt a b q d = ⊎_elim (λ l. l) (λ l. absurd (d (omega arith))) (lt_or_ge b a)
-
-pub all_spread : {keys table : List ℕ} {i n : ℕ} → Spread keys table i → n ≤ i → Searched keys n Distinct
-all_spread w l = λ p q a b. w.apart p q a (omega arith)

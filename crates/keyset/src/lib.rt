@@ -42,8 +42,7 @@ fn probe(keys: &[u64], table: &[u16; SLOTS], x: u64, h: usize) -> usize
     ensures { Probed keys.now table.now x h result }
 {
     // The slots from h on and below t have other keys.
-    let mut t = h;
-    while t < h + 64 {
+    for t in h..h + 64 {
         let v = wide(table[t]);
         if v == 0 {
             return t;
@@ -51,9 +50,8 @@ fn probe(keys: &[u64], table: &[u16; SLOTS], x: u64, h: usize) -> usize
         if keys[v - 1] == x {
             return t;
         }
-        t += 1;
     }
-    t
+    h + 64
 }
 
 // What a search through the slots finds: no two keys are the same, two are, or it gave up.
@@ -70,8 +68,7 @@ pub fn search_slots(keys: &[u64], n: usize, table: &mut [u16; SLOTS]) -> Search
     ensures { Searched keys.now n result }
 {
     // The keys below i differ, and each is in a slot.
-    let mut i = 0;
-    while i < n {
+    for i in 0..n {
         let x = keys[i];
         let h = slot_of(x);
         let s = probe(keys, table, x, h);
@@ -82,7 +79,6 @@ pub fn search_slots(keys: &[u64], n: usize, table: &mut [u16; SLOTS]) -> Search
             return Search::Repeated;
         }
         table[s] = (i + 1) as u16;
-        i += 1;
     }
     Search::Distinct
 }

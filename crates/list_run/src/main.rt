@@ -11,21 +11,11 @@ fn list(number: u64, file: &[u8]) {
     listfile::print_file(file);
 }
 
-// Lists the file from a place up to another.
-fn list_part(number: u64, input: &[u8], from: usize, end: usize) {
-    if from <= end {
-        if end <= input.len() {
-            list(number, &input[from..end]);
-        }
-    }
-}
-
 // Lists file after file.
 fn list_all(input: &[u8]) {
+    // The length of the next file stands at `at`; before it there are `before` others.
     let mut at = 0;
-    let mut number = 0;
-    // The length of the next file stands at `at`; before it there are `number` others.
-    while number < 1000000 {
+    for before in 0..1000000 {
         if input.len() <= at {
             return;
         }
@@ -35,23 +25,20 @@ fn list_all(input: &[u8]) {
             io::write_all(1, b"the input is cut off\n");
             return;
         }
-        number += 1;
-        list_part(number, input, from, end);
+        if let Some(file) = input.get(from..end) {
+            list(before + 1, file);
+        }
         at = end;
-    }
-}
-
-// Lists what the first n bytes hold; an input that fills its room may have been longer.
-fn run(input: &[u8], n: usize) {
-    if n < input.len() {
-        list_all(&input[..n]);
-    } else {
-        io::write_all(1, b"the input is too long\n");
     }
 }
 
 fn main() {
     let mut input = [0u8; 262144];
     let n = io::read_full(0, &mut input);
-    run(&input, n);
+    // An input that fills its room may have been longer.
+    if n < input.len() {
+        list_all(&input[..n]);
+    } else {
+        io::write_all(1, b"the input is too long\n");
+    }
 }

@@ -18,8 +18,8 @@ pub fn list_whole(file: &[u8], out: &mut [u8]) -> usize
 {
     let mut block = [0u64; Header::WORDS];
     match readfile::read_file(file, &mut block) {
-        Answer::Served => listing::put_listing(&block, out),
-        Answer::Refused(r) => listing::put_refused(answers::refusal_number(r), out),
+        Ok(()) => listing::put_listing(&block, out),
+        Err(r) => listing::put_refused(answers::refusal_number(r), out),
     }
 }
 

@@ -53,10 +53,8 @@ pub fn put_darts(block: &[u64], n: usize, out: &mut [u8], at: usize) -> usize
 {
     // The lines below i are stored, up to past.
     let mut past = at;
-    let mut i = 0;
-    while i < n {
+    for i in 0..n {
         past = put_dart(block, Place(i), out, past);
-        i += 1;
     }
     past
 }

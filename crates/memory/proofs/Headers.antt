@@ -1,11 +1,10 @@
 -- The header stored, a part cleared, and the image of an empty block. Assumes nothing.
-use Prim.Native.Nat.{ℕ, ◌+◌, ◌-◌, ◌/◌, ◌%◌, ◌^◌, ◌≤◌, ◌<◌}
+use Prim.Native.Nat.{ℕ, ◌-◌, ◌/◌, ◌%◌, ◌^◌, ◌≤◌, ◌<◌}
 use mathlib.Core.Path.{◌≡◌, refl, sym, ap, ◌∙◌}
 use mathlib.Core.List.{List, [], ◌∷◌, ◌++◌}
 use native.Mathlib.Omega.{arith}
-use native.Mathlib.Numerals.{add-one}
-use lib.ListN.{length, take, drop, set, replicate, length-set, replicate-append-replicate}
-use lib.Seq.{sets-eq, take-suc-set, take_all}
+use lib.ListN.{length, drop, set, replicate}
+use lib.Seq.{sets-eq}
 use borrow.Author.Tests.{eq-eqb, ne_eqb, le-leb, lt-leb, lt-ltb, le-ltb}
 use Rattle.laws.proofs.Lists.{drop_zeros}
 use Rattle.model.specs.Lists.{concat}
@@ -22,27 +21,6 @@ use Rattle.answers.proofs.Questions.{gives, ask_no, ask_yes, ask_end}
 pub stores_are : (m : List ℕ) (a b c : ℕ) → 8 ≤ length m
     → set (set (set (set (set (set (set (set m 0 a) 1 b) 2 c) 3 0) 4 0) 5 0) 6 0) 7 0 ≡ (a ∷ b ∷ c ∷ 0 ∷ 0 ∷ 0 ∷ 0 ∷ 0 ∷ []) ++ drop 8 m
 stores_are m a b c h = sets-eq (a ∷ b ∷ c ∷ 0 ∷ 0 ∷ 0 ∷ 0 ∷ 0 ∷ []) m 0 (omega arith)
-
--- the words of x below i are zero
-pub record Cleared (m x : List ℕ) (i : ℕ) : Type 0 where
-  pub i_le : i ≤ length m
-  pub len : length x ≡ length m
-  pub zeros : take i x ≡ replicate i 0
-
-pub clear_none : (m : List ℕ) → Cleared m m 0
-clear_none m = record { i_le = omega arith; len = refl; zeros = refl }
-
-pub clear_more : {m x : List ℕ} {i : ℕ} → Cleared m x i → i < length x → Cleared m (set x i 0) (i + 1)
-clear_more {m} {x} {i} w h = record {
-  i_le = omega (arith, w.len);
-  len = length-set x i 0 ∙ w.len;
-  zeros = rw (add-one, take-suc-set x i 0 h, w.zeros) (replicate-append-replicate {A = ℕ} i 1 0 ∙ ap (λ (k : ℕ). replicate k 0) (add-one i));
-}
-
-pub clear_all : {m x : List ℕ} {i : ℕ} → Cleared m x i → length x ≤ i → x ≡ replicate (length m) 0
-clear_all {m} {x} {i} w h =
-    let e : i ≡ length m = omega (arith, w.i_le, w.len) in
-    sym (take_all i x h) ∙ w.zeros ∙ ap (λ (k : ℕ). replicate k 0) e
 
 -- zeros with the header of an empty block are its image
 image_of_empty : (size n : ℕ) → image size (new_block n []) ≡ (n ∷ 0 ∷ 0 ∷ 0 ∷ 0 ∷ 0 ∷ 0 ∷ 0 ∷ []) ++ replicate (size - 8) 0

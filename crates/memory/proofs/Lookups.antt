@@ -2,6 +2,8 @@
 --   serials_ascend          the model's test of order gives what a lookup asks for
 --   place_at, place_nothing     what an answer tells of the serials
 --   find_at, dart_found, held_at, index_at; find_nothing, held_nothing    what it tells of the block in memory
+use Rattle.std.specs.Prelude.{None, Some}
+use Rattle.std.proofs.lemmas.Option.{none-some}
 use Prim.Native.Nat.{ℕ, ◌+◌, ◌-◌, ◌/◌, ◌≤◌, ◌<◌}
 use mathlib.Core.Path.{◌≡◌, sym, ap, ◌∙◌}
 use mathlib.Core.Bool.{true, false}
@@ -21,15 +23,14 @@ use Rattle.model.specs.Cells.{serials, held, dart_at}
 use Rattle.model.specs.Image.{column, dart_in, block_in}
 use Rattle.memory.specs.Lookup.{place_in}
 use Rattle.memory.specs.declared.record.Place.{Place}
-use Rattle.memory.specs.declared.lookup.Found.TheVariants.{At, Nothing}
 
-pub place_found : (s : ℕ → ℕ) (n x p : ℕ) → Ascending n s → p < n → s p ≡ x → At (record { 0 = p }) ≡ place_in s n x
+pub place_found : (s : ℕ → ℕ) (n x p : ℕ) → Ascending n s → p < n → s p ≡ x → Some (record { 0 = p }) ≡ place_in s n x
 unfolding place_in
 place_found s n x p a l e =
     let i : index_of x (tab s n) ≡ p = ap (λ (y : ℕ). index_of y (tab s n)) (sym e) ∙ index_place s n p a l in
     rw (place_in, i, lt-ltb p n l)
 
-pub place_none : (s : ℕ → ℕ) (n x : ℕ) → ((k : ℕ) → k < n → s k ≡ x → ⊥) → Nothing ≡ place_in s n x
+pub place_none : (s : ℕ → ℕ) (n x : ℕ) → ((k : ℕ) → k < n → s k ≡ x → ⊥) → None ≡ place_in s n x
 unfolding place_in
 place_none s n x h = rw (place_in, index_none s n x h, le-ltb n n (omega arith))
 
@@ -64,32 +65,31 @@ module _ {n : ℕ} {s : ℕ → ℕ} {x low left : ℕ} (a : Ascending n s) (w :
           (λ u. absurd (omega (arith, not_mid k u l)))
           (lt_or_ge k (low + left / 2))
 
-pub halving_end : {n : ℕ} {s : ℕ → ℕ} {x low left : ℕ} → Halving n s x low left → left ≤ 1 → (s low ≡ x → ⊥) → Nothing ≡ place_in s n x
+pub halving_end : {n : ℕ} {s : ℕ → ℕ} {x low left : ℕ} → Halving n s x low left → left ≤ 1 → (s low ≡ x → ⊥) → None ≡ place_in s n x
 halving_end {n} {s} {x} {low} {left} w l d = place_none s n x (λ k u e. d (ap s (only k (w.within k u e)) ∙ e))
   where
     only : (k : ℕ) → (low ≤ k) × (k < low + left) → low ≡ k
     only k h = omega (arith, h.0, h.1)
 
 -- WHAT AN ANSWER TELLS
-pub place_at : (s : ℕ → ℕ) (n x : ℕ) {p : Place} → place_in s n x ≡ At p → (p.0 < n) × (s p.0 ≡ x)
+pub place_at : (s : ℕ → ℕ) (n x : ℕ) {p : Place} → place_in s n x ≡ Some p → (p.0 < n) × (s p.0 ≡ x)
 unfolding place_in
 place_at s n x {p} e = by_cases (ltb (index_of x (tab s n)) n)
     (λ t. told (ltb-true _ _ t) (rw (place_in, t) at e))
-    (λ t. let q : Nothing ≡ At p = rw (place_in, t) at e in
+    (λ t. let q : None ≡ Some p = rw (place_in, t) at e in
     let z : ◌≡◌ {A = ℕ} 0 1 = cc in
     absurd (omega arith))
   where
-    told : index_of x (tab s n) < n → At (record { 0 = index_of x (tab s n) }) ≡ At p → (p.0 < n) × (s p.0 ≡ x)
+    told : index_of x (tab s n) < n → Some (record { 0 = index_of x (tab s n) }) ≡ Some p → (p.0 < n) × (s p.0 ≡ x)
     told l q =
         let r : index_of x (tab s n) ≡ p.0 = cc in
         (omega arith, ap s (sym r) ∙ index_held s n x l)
 
-pub place_nothing : (s : ℕ → ℕ) (n x : ℕ) → place_in s n x ≡ Nothing → (k : ℕ) → k < n → s k ≡ x → ⊥
+pub place_nothing : (s : ℕ → ℕ) (n x : ℕ) → place_in s n x ≡ None → (k : ℕ) → k < n → s k ≡ x → ⊥
 unfolding place_in
 place_nothing s n x e k l h =
-    let q : At (record { 0 = index_of x (tab s n) }) ≡ Nothing = rw (place_in, lt-ltb _ _ (index_lt s n x k l h)) at e in
-    let z : ◌≡◌ {A = ℕ} 0 1 = cc in
-    omega arith
+    let q : Some (record { 0 = index_of x (tab s n) }) ≡ None = rw (place_in, lt-ltb _ _ (index_lt s n x k l h)) at e in
+    none-some _ (sym q)
 
 -- THE BLOCK IN MEMORY
 module _ (m : List ℕ) where
@@ -100,7 +100,7 @@ module _ (m : List ℕ) where
   pub serials_ascend : ascending (serials (block_in m).darts) ≡ true → Ascending (get_or m 2 0) (column m 0)
   serials_ascend e = ascending_tab (column m 0) (get_or m 2 0) (rw serials_tab at e)
 
-  module _ (x : ℕ) (a : Ascending (get_or m 2 0) (column m 0)) {p : Place} (e : place_in (column m 0) (get_or m 2 0) x ≡ At p) where
+  module _ (x : ℕ) (a : Ascending (get_or m 2 0) (column m 0)) {p : Place} (e : place_in (column m 0) (get_or m 2 0) x ≡ Some p) where
     pub find_at : find (λ d. d.serial) x (block_in m).darts ≡ some (dart_in m p.0)
     find_at =
         let w = place_at (column m 0) (get_or m 2 0) x e in
@@ -120,7 +120,7 @@ module _ (m : List ℕ) where
         let w = place_at (column m 0) (get_or m 2 0) x e in
         rw serials_tab (ap (λ (y : ℕ). index_of y (tab (column m 0) (get_or m 2 0))) (sym w.1) ∙ index_place (column m 0) (get_or m 2 0) p.0 a w.0)
 
-  module _ (x : ℕ) (e : place_in (column m 0) (get_or m 2 0) x ≡ Nothing) where
+  module _ (x : ℕ) (e : place_in (column m 0) (get_or m 2 0) x ≡ None) where
     pub find_nothing : find (λ d. d.serial) x (block_in m).darts ≡ none
     find_nothing = find_none (λ d. d.serial) (dart_in m) (get_or m 2 0) x (place_nothing (column m 0) (get_or m 2 0) x e)
 

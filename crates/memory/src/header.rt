@@ -162,12 +162,7 @@ impl Limits {
 pub fn clear(part: &mut [u64])
     ensures { part.new ≡ replicate (length part.old) 0 }
 {
-    // The words below i are zero.
-    let mut i = 0;
-    while i < part.len() {
-        part[i] = 0;
-        i += 1;
-    }
+    part.fill(0);
 }
 
 // Makes a block's memory the image of the empty block with this number.
@@ -185,13 +180,13 @@ pub fn empty_by(limits: Limits, number: u64, block: &mut [u64]) -> Answer
     ensures { Gives (calls.empty (limits_of limits) number block.old) (answer_of result) block.new }
 {
     if block.len() != limits.words() {
-        return Answer::Refused(Refusal::MemorySize);
+        return Err(Refusal::MemorySize);
     }
     if Header::BLOCKS <= number {
-        return Answer::Refused(Refusal::Destination);
+        return Err(Refusal::Destination);
     }
     make_empty(number, block);
-    Answer::Served
+    Ok(())
 }
 
 // Makes an empty block of the rack.

@@ -7,19 +7,13 @@ ghost use Rattle.memory.specs.Lookup.{place_in};
 use crate::record;
 use crate::record::{Place, Record};
 
-#[derive(Clone, Copy)]
-pub enum Found {
-    At(Place),
-    Nothing,
-}
-
-// The place of the dart with this serial among the first n.
-pub fn place_of(block: &[u64], n: usize, serial: u64) -> Found
+// The place of the dart with this serial among the first n; none where no dart has it.
+pub fn place_of(block: &[u64], n: usize, serial: u64) -> Option<Place>
     requires { (words_for n ≤ length block.now) × Ascending n (column block.now 0) }
     ensures { result ≡ place_in (column block.now 0) n serial }
 {
     if n == 0 {
-        return Found::Nothing;
+        return None;
     }
     // A place with this serial is one of `left` places from `low` on.
     let mut low = 0;
@@ -33,7 +27,7 @@ pub fn place_of(block: &[u64], n: usize, serial: u64) -> Found
         left -= half;
     }
     if record::field(block, Place(low), Record::SERIAL) == serial {
-        return Found::At(Place(low));
+        return Some(Place(low));
     }
-    Found::Nothing
+    None
 }

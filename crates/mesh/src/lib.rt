@@ -18,12 +18,10 @@ use memory::header::{Header, Limits};
 fn zeros(scratch: &[u64]) -> bool
     ensures { result ≡ all (eqb 0) scratch.now }
 {
-    // The entries below i are zero, if ok.
+    // The entries before `word` are zero, if ok.
     let mut ok = true;
-    let mut i = 0;
-    while i < scratch.len() {
-        ok = ok & (scratch[i] == 0);
-        i += 1;
+    for word in scratch {
+        ok = ok & (*word == 0);
     }
     ok
 }
@@ -87,12 +85,10 @@ pub fn all_sound(mesh: &[u64], viewers: u32) -> bool
 {
     let k = mesh.len() / Header::WORDS;
     // The blocks below i are sound.
-    let mut i = 0;
-    while i < k {
+    for i in 0..k {
         if !sound_at(mesh, viewers, i) {
             return false;
         }
-        i += 1;
     }
     true
 }
@@ -104,10 +100,8 @@ fn numbered(mesh: &[u64], k: usize) -> bool
 {
     // The blocks below i are numbered in order, if ok.
     let mut ok = true;
-    let mut i = 0;
-    while i < k {
+    for i in 0..k {
         ok = ok & (mesh[i * Header::WORDS] == i as u64);
-        i += 1;
     }
     ok
 }

@@ -31,14 +31,12 @@ fn made_darts(mesh: &[u64], block: &[u64]) -> bool
 {
     let n = block[Header::COUNT] as usize;
     // The darts below p pass.
-    let mut p = 0;
-    while p < n {
+    for p in 0..n {
         let kind = record::field(block, Place(p), Record::KIND);
         let link = record::field(block, Place(p), Record::LINK);
         if !made(mesh, kind, link) {
             return false;
         }
-        p += 1;
     }
     true
 }
@@ -58,12 +56,10 @@ pub fn makers_right(mesh: &[u64]) -> bool
 {
     let k = mesh.len() / Header::WORDS;
     // The blocks below i pass.
-    let mut i = 0;
-    while i < k {
+    for i in 0..k {
         if !made_part(mesh, i) {
             return false;
         }
-        i += 1;
     }
     true
 }

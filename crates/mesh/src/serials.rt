@@ -18,10 +18,8 @@ fn put_serials(block: &[u64], out: &mut [u64], at: usize) -> usize
 {
     let n = block[Header::COUNT] as usize;
     // The serials of the darts below i are put.
-    let mut i = 0;
-    while i < n {
+    for i in 0..n {
         out[at + i] = record::field(block, Place(i), Record::SERIAL);
-        i += 1;
     }
     at + n
 }
@@ -42,10 +40,8 @@ fn gather(mesh: &[u64], out: &mut [u64]) -> usize
     let k = mesh.len() / Header::WORDS;
     // The first c entries are the serials of the blocks below i.
     let mut c = 0;
-    let mut i = 0;
-    while i < k {
+    for i in 0..k {
         c = put_part(mesh, i, out, c);
-        i += 1;
     }
     c
 }

@@ -1,4 +1,5 @@
 -- Serials replaced by places, dart by dart; a block with serials becomes its image. Assumes nothing.
+use Rattle.std.specs.Prelude.{None, Option, Some}
 use Rattle.std.proofs.Common.{◌≡◌, ℕ, ◌+◌, ◌*◌, ◌<◌, ◌≤◌, true, false, List, [], ◌∷◌, ◌++◌, length, get_or, sym, refl, ap, ◌∙◌, ⊎_elim, add-one, arith}
 use Rattle.laws.specs.Order.{Ascending}
 use Rattle.laws.proofs.Tables.{length_tab, getD_tab, tab_cong, index_place, index_none}
@@ -10,8 +11,6 @@ use Rattle.memory.specs.Record.{record_in, record_words, put}
 use Rattle.memory.specs.Lookup.{place_in}
 use Rattle.memory.specs.declared.record.Place.{Place}
 use Rattle.memory.specs.declared.record.Record.{Record}
-use Rattle.memory.specs.declared.lookup.Found.{Found}
-use Rattle.memory.specs.declared.lookup.Found.TheVariants.{At, Nothing}
 use Rattle.memory.proofs.Lookups.{place_at, place_nothing}
 use Rattle.newblock.specs.Serials.{behind}
 use Rattle.newblock.specs.Places.{place_link, place_words, serials_in, places_below, resolved}
@@ -22,10 +21,10 @@ module _ (s : ℕ → ℕ) (n x : ℕ) where
   pub place_is : Ascending n s → (p : ℕ) → p < n → s p ≡ x → p ≡ index_of x (tab s n)
   place_is a p h e = sym (index_place s n p a h) ∙ ap (λ (y : ℕ). index_of y (tab s n)) e
 
-  pub place_found : Ascending n s → {f : Found} {p : Place} → f ≡ place_in s n x → f ≡ At p → p.0 ≡ index_of x (tab s n)
+  pub place_found : Ascending n s → {f : Option Place} {p : Place} → f ≡ place_in s n x → f ≡ Some p → p.0 ≡ index_of x (tab s n)
   place_found a {f} {p} h e = let w = place_at s n x (sym h ∙ e) in place_is a p.0 w.0 w.1
 
-  pub no_place : {f : Found} → f ≡ place_in s n x → f ≡ Nothing → n ≡ index_of x (tab s n)
+  pub no_place : {f : Option Place} → f ≡ place_in s n x → f ≡ None → n ≡ index_of x (tab s n)
   no_place h e = sym (index_none s n x (place_nothing s n x (sym h ∙ e)))
 
 pub sewn_place : (ss : List ℕ) (k l r : ℕ) → is_sewn_word k ≡ true → r ≡ index_of l ss → r ≡ place_link ss k l

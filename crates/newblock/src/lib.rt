@@ -29,15 +29,15 @@ pub fn link_answer(
     ensures { answer_of result ≡ answered (link_checks (block_in block.now)) }
 {
     if !sound::questions::links_right(block, seen) {
-        return Answer::Refused(Refusal::LinksWrong);
+        return Err(Refusal::LinksWrong);
     }
     if !sound::questions::thirds_right(block) {
-        return Answer::Refused(Refusal::ThirdLinksWrong);
+        return Err(Refusal::ThirdLinksWrong);
     }
     if !sound::questions::labels_right(block, keys, table, scratch) {
-        return Answer::Refused(Refusal::LabelsWrong);
+        return Err(Refusal::LabelsWrong);
     }
-    Answer::Served
+    Ok(())
 }
 
 // 4 to 8 of an image.
@@ -54,17 +54,13 @@ pub fn block_answer(
     ensures { answer_of result ≡ answered (block_checks (block_in block.now)) }
 {
     if !sound::questions::coordinates_finite(block) {
-        return Answer::Refused(Refusal::CoordinateNotFinite);
+        return Err(Refusal::CoordinateNotFinite);
     }
-    match link_answer(block, seen, keys, table, scratch) {
-        Answer::Served => {
-            if !sound::questions::points_agree(block) {
-                return Answer::Refused(Refusal::PointsDisagree);
-            }
-            Answer::Served
-        }
-        Answer::Refused(r) => Answer::Refused(r),
+    link_answer(block, seen, keys, table, scratch)?;
+    if !sound::questions::points_agree(block) {
+        return Err(Refusal::PointsDisagree);
     }
+    Ok(())
 }
 
 // Makes the image of the block that `made` has in serials, and puts it into the lent memory where 4 to 8 are answered yes. A no leaves
@@ -83,13 +79,9 @@ pub fn put_block(
     ensures { Gives (storing_block made.old block.old) (answer_of result) block.new }
 {
     place::resolve_by(made, keys, scratch);
-    match block_answer(made, seen, keys, table, scratch) {
-        Answer::Served => {
-            sort::table::copy(made, block);
-            Answer::Served
-        }
-        Answer::Refused(r) => Answer::Refused(r),
-    }
+    block_answer(made, seen, keys, table, scratch)?;
+    sort::table::copy(made, block);
+    Ok(())
 }
 
 // The same where 5 to 7 are answered yes: of darts with no points.
@@ -107,11 +99,7 @@ pub fn put_links(
     ensures { Gives (storing_links made.old block.old) (answer_of result) block.new }
 {
     place::resolve_by(made, keys, scratch);
-    match link_answer(made, seen, keys, table, scratch) {
-        Answer::Served => {
-            sort::table::copy(made, block);
-            Answer::Served
-        }
-        Answer::Refused(r) => Answer::Refused(r),
-    }
+    link_answer(made, seen, keys, table, scratch)?;
+    sort::table::copy(made, block);
+    Ok(())
 }

@@ -9,7 +9,6 @@ ghost use Rattle.newblock.specs.Places.{place_link, place_words};
 
 use memory::header::Header;
 use memory::kind;
-use memory::lookup::Found;
 use memory::record::{Place, Record};
 
 // A table of hints has so many entries on the rack, and on a viewer; a hint is a place that a serial may have.
@@ -75,12 +74,10 @@ fn put_hints(block: &[u64], n: usize, first: &mut [u64], second: &mut [u64])
         return;
     }
     // Those below i have hints.
-    let mut i = 0;
-    while i < n {
+    for i in 0..n {
         let serial = memory::record::field(block, Place(i), Record::SERIAL);
         put_hint(first, first_entry(serial, first.len()), i);
         put_hint(second, second_entry(serial, second.len()), i);
-        i += 1;
     }
 }
 
@@ -122,8 +119,8 @@ fn place_near(
         return k;
     }
     match memory::lookup::place_of(block, n, serial) {
-        Found::At(q) => q.0 as u64,
-        Found::Nothing => n as u64,
+        Some(q) => q.0 as u64,
+        None => n as u64,
     }
 }
 
@@ -177,10 +174,8 @@ fn place_all(block: &mut [u64], first: &[u64], second: &[u64])
 {
     let n = block[Header::COUNT] as usize;
     // The first i darts have places.
-    let mut i = 0;
-    while i < n {
+    for i in 0..n {
         resolve_dart(block, n, Place(i), first, second);
-        i += 1;
     }
 }
 

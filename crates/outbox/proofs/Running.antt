@@ -117,9 +117,6 @@ module _ {q : ℕ → Bool} {n k entries : ℕ} (r : Tallied q n k entries) wher
   pub tallied_few : entries ≤ k
   tallied_few = omega (arith, r.so_far, tally_le q k)
 
-  pub tallied_end : n ≤ k → entries ≡ tally q n
-  tallied_end h = let e : n ≡ k = omega (arith, r.k_le) in rw e r.so_far
-
   module _ (h : k < n) where
     pub tallied_step : q k ≡ true → Tallied q n (k + 1) (entries + 1)
     tallied_step e = record { k_le = omega arith; so_far = omega (arith, r.so_far, tally_yes q k e) }

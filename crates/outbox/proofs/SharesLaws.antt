@@ -1,5 +1,5 @@
 -- The labels counted for each block: one face more adds to the block that shares it, and to no other. Assumes nothing.
-use mathlib.Core.Path.{◌≡◌, refl, sym, subst, ◌∙◌, ap}
+use mathlib.Core.Path.{◌≡◌, refl, sym, ◌∙◌, ap}
 use mathlib.Core.Bool.{true, false}
 use mathlib.Core.Logic.{⊎_elim}
 use mathlib.Core.List.{List, []}
@@ -87,9 +87,6 @@ module _ {m order starts : List ℕ} {darts count f : ℕ} {labels bytes : List 
       where
         size_is : (k : ℕ) → k ≡ w / 4 → size ≡ length (least_put m k order starts darts count f)
         size_is k i = g ∙ sym (ap length (least_one m k order starts darts count f e v (shared k i) h c))
-
-  pub shares_end : f ≤ count → count ≤ f → Shares m order starts darts count count labels bytes
-  shares_end a b = let e : count ≡ f = omega arith in subst (λ (x : ℕ). Shares m order starts darts count x labels bytes) (sym e) s
 
 -- as the code counts it, at r
 pub shares_all : (labels bytes : List ℕ) (size : ℕ) {m order starts : List ℕ} {darts count f r k : ℕ} {labels' bytes' : List ℕ}

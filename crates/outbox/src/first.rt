@@ -34,11 +34,9 @@ pub fn put_points(
 {
     // The points before k are put, up to `at`.
     let mut at = from;
-    let mut k = 0;
-    while k < count {
+    for k in 0..count {
         let p = firsts[k];
         at = entry::put_point(out, at, point::point_at(block, Place(p)));
-        k += 1;
     }
     at
 }
@@ -60,8 +58,7 @@ fn put_darts(
     // The darts before k are put, up to `at`.
     let first = start.0;
     let mut at = from;
-    let mut k = 0;
-    while k < size {
+    for k in 0..size {
         let p = order[first + k];
         at = entry::put_dart(
             out,
@@ -69,7 +66,6 @@ fn put_darts(
             numbers[p],
             record::field(block, Place(p), Record::SERIAL),
         );
-        k += 1;
     }
     at
 }
@@ -109,8 +105,7 @@ pub fn put_faces(
 {
     // The faces before f are put, up to `at`.
     let mut at = from;
-    let mut f = 0;
-    while f < count {
+    for f in 0..count {
         let start = starts[f];
         let end = face_end(starts, count, darts, f);
         at = put_face(
@@ -122,7 +117,6 @@ pub fn put_faces(
             out,
             at,
         );
-        f += 1;
     }
     at
 }

@@ -21,11 +21,9 @@ fn least_code(block: &[u64], order: &[usize], start: MessageIndex, size: usize) 
     let first = start.0;
     let place = order[first];
     let mut least = record::field(block, Place(place), Record::LINK);
-    let mut k = 1;
-    while k < size {
+    for k in 1..size {
         let p = order[first + k];
         least = sort::lesser(least, record::field(block, Place(p), Record::LINK));
-        k += 1;
     }
     least
 }
@@ -65,13 +63,11 @@ pub fn count_labels(
     ensures { Shares block.now order.now starts.now darts count count labels.new bytes.new }
 {
     // The faces before f are counted.
-    let mut f = 0;
-    while f < count {
+    for f in 0..count {
         let start = starts[f];
         let end = first::face_end(starts, count, darts, f);
         let p = order[start];
         let word = record::field(block, Place(p), Record::KIND);
-        f += 1;
         if !kind::is_critical(word) {
             continue;
         }
@@ -98,12 +94,10 @@ pub fn put_leasts(
 {
     // The labels of the faces before f are put, up to `at`.
     let mut at = from;
-    let mut f = 0;
-    while f < count {
+    for f in 0..count {
         let start = starts[f];
         let end = first::face_end(starts, count, darts, f);
         let p = order[start];
-        f += 1;
         if record::field(block, Place(p), Record::KIND) != kind::critical_with(k) {
             continue;
         }

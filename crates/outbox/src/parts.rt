@@ -38,11 +38,9 @@ pub fn part2_count(block: &[u64], to: u64, order: &[usize], starts: &[usize], co
 {
     // The faces before f have so many entries.
     let mut entries = 0;
-    let mut f = 0;
-    while f < count {
+    for f in 0..count {
         let i = starts[f];
         let p = order[i];
-        f += 1;
         if !critical_with(block, to, Place(p)) {
             continue;
         }
@@ -67,11 +65,9 @@ pub fn put_part2s(
 {
     // The entries of the faces before f are put, up to `at`.
     let mut at = from;
-    let mut f = 0;
-    while f < count {
+    for f in 0..count {
         let i = starts[f];
         let p = order[i];
-        f += 1;
         if !critical_with(block, to, Place(p)) {
             continue;
         }
@@ -105,11 +101,9 @@ pub fn put_part3s(
     // The entries of the faces before f are put, up to `at`; the next has `number`.
     let mut at = from;
     let mut number = counter;
-    let mut f = 0;
-    while f < count {
+    for f in 0..count {
         let i = starts[f];
         let p = order[i];
-        f += 1;
         if !sewn::sewn_away(block, n, marks, Place(p)) {
             continue;
         }
@@ -135,11 +129,9 @@ fn put_labels(
     // The labels before k are put, up to `at`.
     let first = start.0;
     let mut at = from;
-    let mut k = 0;
-    while k < size {
+    for k in 0..size {
         let p = order[first + k];
         at = groups::put_label(out, at, record::field(block, Place(p), Record::LINK));
-        k += 1;
     }
     at
 }
@@ -171,11 +163,9 @@ pub fn part4_count(block: &[u64], to: u64, order: &[usize], starts: &[usize], co
 {
     // The faces before f have so many entries.
     let mut entries = 0;
-    let mut f = 0;
-    while f < count {
+    for f in 0..count {
         let i = starts[f];
         let p = order[i];
-        f += 1;
         if !critical_beside(block, to, Place(p)) {
             continue;
         }
@@ -201,12 +191,10 @@ pub fn put_part4s(
 {
     // The entries of the faces before f are put, up to `at`.
     let mut at = from;
-    let mut f = 0;
-    while f < count {
+    for f in 0..count {
         let start = starts[f];
         let end = first::face_end(starts, count, darts, f);
         let p = order[start];
-        f += 1;
         if !critical_beside(block, to, Place(p)) {
             continue;
         }

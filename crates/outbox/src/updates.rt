@@ -22,10 +22,8 @@ fn sum_sizes(to: u64, labels: &[usize], bytes: &[usize]) -> usize
 {
     // The messages before block k take `size` bytes.
     let mut size = 0;
-    let mut k = 0;
-    while k < memory::header::BLOCKS {
+    for k in 0..memory::header::BLOCKS {
         size += update::update_size(to, k as u64, labels[k], bytes[k]);
-        k += 1;
     }
     size
 }
@@ -77,12 +75,10 @@ pub fn put_updates(
     let faces = counts.faces;
     // The messages before block k are put, up to `at`.
     let mut at = 0;
-    let mut k = 0;
-    while k < memory::header::BLOCKS {
+    for k in 0..memory::header::BLOCKS {
         let other = k as u64;
         let n = labels[k];
         let b = bytes[k];
-        k += 1;
         if !update::relative(to, other, n) {
             continue;
         }

@@ -3,7 +3,7 @@ use mathlib.Core.Path.{◌≡◌, refl, sym, ap, subst, ◌∙◌}
 use mathlib.Core.Bool.{Bool, true, false, not, ◌&&◌}
 use mathlib.Core.List.{List, [], ◌∷◌, ◌++◌, append-nil, append_assoc}
 use mathlib.Core.Logic.{⊎_elim}
-use Prim.Native.Nat.{ℕ, suc, ◌+◌, ◌*◌, ◌-◌, ◌/◌, ◌≤◌, ◌<◌}
+use Prim.Native.Nat.{ℕ, suc, ◌+◌, ◌*◌, ◌-◌, ◌/◌, ◌%◌, ◌≤◌, ◌<◌}
 use native.Mathlib.Omega.{arith}
 use lib.Dec.{eqb}
 use lib.ListN.{length, get_or, take, drop, set, length-set}
@@ -182,11 +182,20 @@ module _ {t : ℕ → ℕ → Bool} {l : List ℕ} {k : ℕ} where
   pub pairs_no : PairsLeft t l k → 1 < length l - k → {r : Bool} → r ≡ two_test t (get_or l k 0) (get_or l (k + 1) 0) (drop (k + 2) l) → r ≡ false → false ≡ in_pairs t l
   pairs_no w h e f = sym (pairs_step t l k (two_there (length l) k h) ∙ first_no _ _ (sym e ∙ f)) ∙ w.rest
 
-  pub pairs_end : PairsLeft t l k → length l - k ≤ 1 → eqb k (length l) ≡ in_pairs t l
-  pairs_end w h = ⊎_elim
-      (λ e. eq-eqb k (length l) e ∙ (no_pairs t 0).0 ∙ ap (in_pairs t) (sym (end_none l k e)))
-      (λ n. ne_eqb k (length l) n ∙ (no_pairs t (get_or l k 0)).1 ∙ ap (in_pairs t) (sym (end_one l k w.k_le h n)))
+  pub pairs_end : (h : ℕ) → k ≡ 2 * h → PairsLeft t l k → length l / 2 ≤ h → eqb (length l % 2) 0 ≡ in_pairs t l
+  pairs_end h s w d = ⊎_elim
+      (λ e. eq-eqb (length l % 2) 0 (even s e) ∙ (no_pairs t 0).0 ∙ ap (in_pairs t) (sym (end_none l k e)))
+      (λ n. ne_eqb (length l % 2) 0 (λ z. n (whole (length l) s d w.k_le z)) ∙ (no_pairs t (get_or l k 0)).1 ∙ ap (in_pairs t) (sym (end_one l k w.k_le (few (length l) s d) n)))
       (eq_or_ne k (length l)) ∙ w.rest
+    where
+      even : {c : ℕ} → k ≡ 2 * h → k ≡ c → c % 2 ≡ 0
+      even a b = omega (arith, a, b)
+
+      whole : (c : ℕ) → k ≡ 2 * h → c / 2 ≤ h → k ≤ c → c % 2 ≡ 0 → k ≡ c
+      whole c a b l z = omega (arith, a, b, l, z)
+
+      few : (c : ℕ) → k ≡ 2 * h → c / 2 ≤ h → c - k ≤ 1
+      few c a b = omega (arith, a, b)
 
   pub each_more : EachLeft t l k → 1 < length l - k → {r : Bool} → r ≡ t (get_or l k 0) (get_or l (k + 1) 0) → r ≡ true → EachLeft t l (k + 2)
   each_more w h e f = record {

@@ -24,11 +24,9 @@ fn fill_part(mesh: &[u64], i: usize, table: &mut [u64])
 {
     let n = mesh[i * Header::WORDS + Header::COUNT] as usize;
     // The darts below p are done.
-    let mut p = 0;
-    while p < n {
+    for p in 0..n {
         let next = next_place(mesh, i, Place(p));
         table[i * Header::DARTS + next.0] = p as u64;
-        p += 1;
     }
 }
 
@@ -39,9 +37,7 @@ pub fn fill(mesh: &[u64], table: &mut [u64])
 {
     let k = mesh.len() / Header::WORDS;
     // The blocks below i are done.
-    let mut i = 0;
-    while i < k {
+    for i in 0..k {
         fill_part(mesh, i, table);
-        i += 1;
     }
 }

@@ -33,10 +33,8 @@ fn put_keys(block: &[u64], i: usize, out: &mut [u64], at: usize) -> usize
     let n = block[Header::COUNT] as usize;
     // The keys of the darts below p stand from `at` up to the end.
     let mut end = at;
-    let mut p = 0;
-    while p < n {
+    for p in 0..n {
         end = put_key(block, i, Place(p), out, end);
-        p += 1;
     }
     end
 }
@@ -57,10 +55,8 @@ pub fn gather(mesh: &[u64], out: &mut [u64]) -> usize
     let k = mesh.len() / Header::WORDS;
     // The first c entries are the keys of the blocks below i.
     let mut c = 0;
-    let mut i = 0;
-    while i < k {
+    for i in 0..k {
         c = put_part(mesh, i, out, c);
-        i += 1;
     }
     c
 }

@@ -34,15 +34,13 @@ pub fn labels(mesh: &[u64], table: &[u64], keys: &[u64]) -> bool
     ensures { result ≡ in_pairs (label_pair mesh.now table.now) keys.now }
 {
     let n = keys.len();
-    // The keys from t on are what is left to test.
-    let mut t = 0;
-    while 1 < n - t {
-        if !two(mesh, table, keys, t) {
+    // The first h pairs pass.
+    for h in 0..n / 2 {
+        if !two(mesh, table, keys, 2 * h) {
             return false;
         }
-        t += 2;
     }
-    t == n
+    n % 2 == 0
 }
 
 // 26, of all keys.
@@ -50,14 +48,11 @@ pub fn points(mesh: &[u64], keys: &[u64]) -> bool
     requires { MeshAsked mesh.now × HeldKeys mesh.now keys.now }
     ensures { result ≡ each_pair (point_pair mesh.now) keys.now }
 {
-    let n = keys.len();
-    // The keys from t on are what is left to test.
-    let mut t = 0;
-    while 1 < n - t {
-        if !dart::points_pair(mesh, keys[t], keys[t + 1]) {
+    // The first h pairs pass.
+    for h in 0..keys.len() / 2 {
+        if !dart::points_pair(mesh, keys[2 * h], keys[2 * h + 1]) {
             return false;
         }
-        t += 2;
     }
     true
 }

@@ -1,4 +1,5 @@
 -- The labels of the new darts: loops over them and over the block. Assumes nothing.
+use Rattle.std.specs.Prelude.{None, Some}
 use mathlib.Core.Path.{◌≡◌, refl, sym, ◌∙◌, ap}
 use mathlib.Core.Bool.{Bool, true, false, not, ◌||◌}
 use mathlib.Core.List.{List, ◌++◌, ◌∷◌, []}
@@ -15,7 +16,6 @@ use Rattle.laws.proofs.Tests.{by_cases, same_truth}
 use Rattle.laws.proofs.Maps.{tab_more}
 use Rattle.laws.proofs.Tables.{getD_tab, mem_place, place_mem, mem_none}
 use Rattle.arrival.proofs.PairLaws.{all_same}
-use Rattle.ranking.specs.declared.Ranking.TheVariants.{At, Nothing}
 use Rattle.ranking.specs.Ranks.{value_at, index_at, rank_in, Ranked}
 use Rattle.ranking.proofs.Found.{rank_at, rank_nothing}
 use Rattle.parts.specs.Fresh.{own_right, own_at, fresh_value, fresh_at, ValuesPut, clear_at, labels_fit}
@@ -63,10 +63,10 @@ module _ (m keys : List ℕ) (k p : ℕ) where
   pub clear_free : is_critical_word (column m 3 p) ≡ false → true ≡ clear_at m (tab (value_at keys) k) p
   clear_free h = rw h refl
 
-  pub clear_none : is_critical_word (column m 3 p) ≡ true → rank_in (value_at keys) k (column m 4 p) ≡ Nothing → true ≡ clear_at m (tab (value_at keys) k) p
+  pub clear_none : is_critical_word (column m 3 p) ≡ true → rank_in (value_at keys) k (column m 4 p) ≡ None → true ≡ clear_at m (tab (value_at keys) k) p
   clear_none h e = rw (h, mem_none (value_at keys) k (column m 4 p) (rank_nothing (value_at keys) k (column m 4 p) e)) refl
 
-  pub clear_found : is_critical_word (column m 3 p) ≡ true → {r : ℕ} → rank_in (value_at keys) k (column m 4 p) ≡ At r → false ≡ clear_at m (tab (value_at keys) k) p
+  pub clear_found : is_critical_word (column m 3 p) ≡ true → {r : ℕ} → rank_in (value_at keys) k (column m 4 p) ≡ Some r → false ≡ clear_at m (tab (value_at keys) k) p
   clear_found h {r} e = let w = rank_at (value_at keys) k (column m 4 p) e in rw (h, mem_place (value_at keys) k r (column m 4 p) w.0 w.1) refl
 
 -- ALL

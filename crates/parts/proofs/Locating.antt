@@ -1,4 +1,5 @@
 -- The labels of part 2 found in the block, dart by dart. Assumes nothing.
+use Rattle.std.specs.Prelude.{None, Some}
 use mathlib.Core.Path.{◌≡◌, refl, sym, ◌∙◌, ap, subst}
 use mathlib.Core.Bool.{true, false, true≢false}
 use mathlib.Core.List.{List}
@@ -11,7 +12,6 @@ use Rattle.model.specs.Image.{column, is_critical_word}
 use Rattle.laws.specs.Order.{Ascending}
 use Rattle.laws.proofs.Tests.{by_cases, eq_or_ne, last_or_below}
 use Rattle.laws.proofs.Tables.{one_place}
-use Rattle.ranking.specs.declared.Ranking.TheVariants.{At, Nothing}
 use Rattle.ranking.specs.Ranks.{value_at, index_at, rank_in, Ranked}
 use Rattle.ranking.proofs.Found.{rank_at, rank_nothing}
 use Rattle.parts.specs.Locate.{none_there, Noted, LocatedAt, Located}
@@ -21,11 +21,11 @@ module _ (m keys : List ℕ) (c p : ℕ) (a : List ℕ) where
   pub noted_free : is_critical_word (column m 3 p) ≡ false → Noted m keys c p a a
   noted_free h = record { size = refl; hit = λ k. absurd (true≢false (sym k ∙ h)); other = λ e k. refl }
 
-  pub noted_none : rank_in (value_at keys) c (column m 4 p) ≡ Nothing → Noted m keys c p a a
+  pub noted_none : rank_in (value_at keys) c (column m 4 p) ≡ None → Noted m keys c p a a
   noted_none e = record { size = refl; hit = λ k r h q. absurd (rank_nothing (value_at keys) c (column m 4 p) e r h q); other = λ d k. refl }
 
   pub noted_found : {r : ℕ} → is_critical_word (column m 3 p) ≡ true → Ascending c (value_at keys) → c ≤ length a → ((r : ℕ) → r < c → index_at keys r < c)
-      → rank_in (value_at keys) c (column m 4 p) ≡ At r → Noted m keys c p a (set a (index_at keys r) p)
+      → rank_in (value_at keys) c (column m 4 p) ≡ Some r → Noted m keys c p a (set a (index_at keys r) p)
   noted_found {r} h up few below e =
       let w = rank_at (value_at keys) c (column m 4 p) e in
       record {
@@ -35,7 +35,7 @@ module _ (m keys : List ℕ) (c p : ℕ) (a : List ℕ) where
         other = λ d k. get_or-set_other a (index_at keys r) d p 0 (λ q. k h r w.0 w.1 (sym q));
       }
 
-pub found_below : (keys : List ℕ) (c x : ℕ) {r : ℕ} → rank_in (value_at keys) c x ≡ At r → r < c
+pub found_below : (keys : List ℕ) (c x : ℕ) {r : ℕ} → rank_in (value_at keys) c x ≡ Some r → r < c
 found_below keys c x e = (rank_at (value_at keys) c x e).0
 
 -- ALL

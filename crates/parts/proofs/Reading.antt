@@ -1,8 +1,7 @@
 -- Entries of a part read into two arrays, one after the other. Assumes nothing.
+use Rattle.std.specs.Prelude.{None, Option, Some}
 use Rattle.parts.specs.Entries.{EntryThere, EntrySaid, EntryRead, Part4Read, entry_at, labels_at, LabelsThere}
 use Rattle.parts.specs.declared.entries.Entry.{Entry}
-use Rattle.parts.specs.declared.entries.EntryOrNot.{EntryOrNot}
-use Rattle.parts.specs.declared.entries.EntryOrNot.TheVariants as entry
 use Rattle.laws.proofs.Maps.{tab_more}
 use Rattle.laws.proofs.Tables.{tab_cong}
 use Rattle.laws.proofs.Tests.{last_or_below}
@@ -27,10 +26,9 @@ use Rattle.model.specs.Messages.{label, part2, part3}
 use Rattle.laws.proofs.Members.{map_append}
 use Rattle.theory.proofs.LayoutLaws.{same_value}
 use Rattle.groups.specs.Slices.{read_at}
-use Rattle.groups.specs.declared.Read.TheVariants.{Value, Bad}
 use Rattle.groups.proofs.Ends.{bad_at}
 use Rattle.groups.proofs.Labels.{at_most_bound}
-use Rattle.groups.specs.declared.Read.{Read as Answer}
+use Rattle.groups.specs.Slices.{MaybeRead}
 use Rattle.codec.specs.Taken.{Took, PassSaid, Passes}
 use Rattle.inbox.specs.Inbox.{Sized}
 use Rattle.codec.proofs.Taking.{took_group, such_took, pair_took, both_none, both_half, both_took, as_none, as_took, SoFar, so_far_start, so_far_more, so_far_stop, so_far_end}
@@ -94,12 +92,12 @@ module _ {A : Type 0} (l : Layout A) (f g : A → ℕ) where
         }
 
 -- AN ENTRY of two numbers, by its part
-pub no_first : (p : Paired) (s : List ℕ) (at : ℕ) → Bad ≡ read_at (first_layout p) s at → (pair p).get (drop at s) ≡ none
+pub no_first : (p : Paired) (s : List ℕ) (at : ℕ) → None ≡ read_at (first_layout p) s at → (pair p).get (drop at s) ≡ none
 unfolding part2 part3
 no_first paired.Second s at e = as_none _ _ _ (drop at s) (both_none label group (drop at s) (no_label s at e))
 no_first paired.Third s at e = as_none _ _ _ (drop at s) (both_none group group (drop at s) (bad_at group s at e))
 
-pub no_index : (p : Paired) (s : List ℕ) (at a q : ℕ) → Value a q ≡ read_at (first_layout p) s at → Bad ≡ read_at group s q → (pair p).get (drop at s) ≡ none
+pub no_index : (p : Paired) (s : List ℕ) (at a q : ℕ) → Some (a, q) ≡ read_at (first_layout p) s at → None ≡ read_at group s q → (pair p).get (drop at s) ≡ none
 unfolding part2 part3
 no_index paired.Second s at a q e d = as_none _ _ _ (drop at s) (both_half label group (took_label e) (bad_at group s q d))
 no_index paired.Third s at a q e d = as_none _ _ _ (drop at s) (both_half group group (took_group e) (bad_at group s q d))
@@ -111,7 +109,7 @@ pub record PairTook (p : Paired) (s : List ℕ) (at a i next : ℕ) : Type 0 whe
   pub first_is : a ≡ first_number p pair_there
   pub index_is : i ≡ index p pair_there
 
-pub took_pair : (p : Paired) {s : List ℕ} {at a q i r : ℕ} → Value a q ≡ read_at (first_layout p) s at → Value i r ≡ read_at group s q → PairTook p s at a i r
+pub took_pair : (p : Paired) {s : List ℕ} {at a q i r : ℕ} → Some (a, q) ≡ read_at (first_layout p) s at → Some (i, r) ≡ read_at group s q → PairTook p s at a i r
 unfolding part2 part3
 took_pair paired.Second {a = a} {i = i} e d = record {
   pair_there = record { label = label_in a; index = i };
@@ -138,27 +136,27 @@ part4_took fs {index =
     index} a b c = as_took _ _ _ (pair_took (such_that group (λ i. ltb i (size_all fs)))
     (λ i. at_most 15 ⊕ times (size_at i fs) label) a (both_took (at_most 15) (times (size_at index fs) label) b c))
 
-pub entry_no : (fs : List (List FaceDart)) {z s : List ℕ} {at : ℕ} → Passes (part4 fs) s at Bad → EntryRead fs z s at entry.Not
+pub entry_no : (fs : List (List FaceDart)) {z s : List ℕ} {at : ℕ} → Passes (part4 fs) s at None → EntryRead fs z s at None
 entry_no fs d = record { said = d.said }
 
-module _ (fs : List (List FaceDart)) {z s : List ℕ} {at : ℕ} {r : EntryOrNot} (w : EntryRead fs z s at r) where
-  pub entry_missing : r ≡ entry.Not → (part4 fs).get (drop at s) ≡ none
+module _ (fs : List (List FaceDart)) {z s : List ℕ} {at : ℕ} {r : Option Entry} (w : EntryRead fs z s at r) where
+  pub entry_missing : r ≡ None → (part4 fs).get (drop at s) ≡ none
   entry_missing e = subst (EntrySaid fs z s at) e w.said
 
-  pub entry_there : {o : Entry} → r ≡ entry.Entry o → EntryThere fs z s at o.index.0 o.other o.labels o.next
+  pub entry_there : {o : Entry} → r ≡ Some o → EntryThere fs z s at o.index.0 o.other o.labels o.next
   entry_there e = subst (EntrySaid fs z s at) e w.said
 
 module _ (fs : List (List FaceDart)) {s z : List ℕ} {at p index other labels darts n : ℕ} (sized : Sized fs darts z)
     (first_number : Took group s at index p) (h : index < darts) (second : Took (at_most 15) s p other labels)
     (same : n ≡ get_or z index 0) where
-  pub entry_half : {a : Answer} → a ≡ Bad → Passes (times n label) s labels a → EntryRead fs z s at entry.Not
-  entry_half q d = entry_no fs (part4_pass fs first_number sized h second same (subst (λ (b : Answer). Passes (times n label) s labels b) q d))
+  pub entry_half : {a : MaybeRead} → a ≡ None → Passes (times n label) s labels a → EntryRead fs z s at None
+  entry_half q d = entry_no fs (part4_pass fs first_number sized h second same (subst (λ (b : MaybeRead). Passes (times n label) s labels b) q d))
 
-  pub entry_yes : {a : Answer} {u next : ℕ} → a ≡ Value u next → Passes (times n label) s labels a
-      → EntryRead fs z s at (entry.Entry (record { index = record { 0 = index }; other = other; labels = labels; next = next }))
+  pub entry_yes : {a : MaybeRead} {u next : ℕ} → a ≡ Some (u, next) → Passes (times n label) s labels a
+      → EntryRead fs z s at (Some (record { index = record { 0 = index }; other = other; labels = labels; next = next }))
   entry_yes {a} {u} {next} q d = record { said = go (subst (PassSaid (times n label) s labels) q d.said) }
     where
-      go : PassSaid (times n label) s labels (Value u next) → EntryThere fs z s at index other labels next
+      go : PassSaid (times n label) s labels (Some (u, next)) → EntryThere fs z s at index other labels next
       go d =
           let t : Took (times (get_or z index 0) label) s labels d.0 next = subst (λ (k : ℕ). Took (times k label) s labels d.0 next) same d.1 in
           let l = labels_are (get_or z index 0) t in

@@ -1,4 +1,5 @@
 -- Words written on faces, one after the other. Assumes nothing.
+use Rattle.std.specs.Prelude.{None, Some}
 use mathlib.Core.Path.{◌≡◌, refl, sym, ◌∙◌, ap, subst}
 use mathlib.Core.Logic.{⊎_elim, inl, inr}
 use mathlib.Core.List.{List, [], ◌∷◌, ◌++◌, map}
@@ -15,7 +16,6 @@ use Rattle.laws.proofs.Tests.{last_or_below}
 use Rattle.laws.proofs.Members.{map_append}
 use Rattle.laws.proofs.Labels.{code_in}
 use Rattle.groups.specs.Slices.{read_at, label_code}
-use Rattle.groups.specs.declared.Read.TheVariants.{Value, Bad}
 use Rattle.codec.proofs.Taking.{SoFar, so_far_start, so_far_more, so_far_stop, so_far_end}
 use Rattle.codec.proofs.Passing.{no_label, took_label}
 use Rattle.parts.specs.Faces.{Over, Spans, Faced, code_at}
@@ -83,11 +83,11 @@ pub coding_none : {s : List ℕ} (from n at : ℕ) (a : List ℕ) → from ≤ l
 coding_none from n at a h = record { le = omega arith; items = []; so_far = so_far_start label from h; read = refl; put = over_none at _ a }
 
 module _ {s : List ℕ} {from n at : ℕ} {a a' : List ℕ} {j p : ℕ} (w : Coding s from n at a a' j p) where
-  pub coding_bad : LabelsThere s from n → j < n → Bad ≡ read_at label_code s p → ⊥
+  pub coding_bad : LabelsThere s from n → j < n → None ≡ read_at label_code s p → ⊥
   unfolding times
   coding_bad t h e = none-ne-some _ (sym (so_far_stop label n w.so_far (let k = w.read in omega arith) (no_label s p e)) ∙ t.took.value)
 
-  pub coding_more : {y q : ℕ} → at + n ≤ length a → j < n → Value y q ≡ read_at label_code s p → Coding s from n at a (set a' (at + j) y) (j + 1) q
+  pub coding_more : {y q : ℕ} → at + n ≤ length a → j < n → Some (y, q) ≡ read_at label_code s p → Coding s from n at a (set a' (at + j) y) (j + 1) q
   coding_more {y} {q} fits h e = record {
     le = omega arith;
     items = w.items ++ label_in y ∷ [];

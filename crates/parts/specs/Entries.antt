@@ -1,5 +1,5 @@
 -- The entries of the parts in arrays. Assumes nothing.
-use Rattle.std.specs.Prelude.{◌≡◌, List, [], map, ℕ, ◌≤◌, ◌<◌, get_or, take, drop}
+use Rattle.std.specs.Prelude.{◌≡◌, List, [], map, ℕ, ◌≤◌, ◌<◌, get_or, take, drop, None, Option, Some}
 use Rattle.std.proofs.Math.Option.{none, some}
 use Rattle.model.specs.Lists.{tab}
 use Rattle.model.specs.Values.{Label, code, last_block}
@@ -8,8 +8,7 @@ use Rattle.model.specs.Messages.{FaceDart, Part2, Part3, Part4, label, part2, pa
 use Rattle.codec.specs.Taken.{Took}
 use Rattle.codec.specs.declared.entry.Paired.{Paired}
 use Rattle.codec.specs.declared.entry.Paired.TheVariants as paired
-use Rattle.parts.specs.declared.entries.EntryOrNot.{EntryOrNot}
-use Rattle.parts.specs.declared.entries.EntryOrNot.TheVariants as entry
+use Rattle.parts.specs.declared.entries.Entry.{Entry}
 
 -- what an entry has
 abbrev pub code2 : Part2 → ℕ
@@ -71,11 +70,11 @@ pub record EntryThere (fs : List (List FaceDart)) (z s : List ℕ) (at index oth
   pub there : LabelsThere s labels (get_or z index 0)
   pub took : Took (part4 fs) s at (record { index = index; other = other; labels = labels_at s labels (get_or z index 0) }) next
 
-abbrev pub EntrySaid : List (List FaceDart) → List ℕ → List ℕ → ℕ → EntryOrNot → Type 0
-EntrySaid fs z s at entry.Not = (part4 fs).get (drop at s) ≡ none
-EntrySaid fs z s at (entry.Entry e) = EntryThere fs z s at e.index.0 e.other e.labels e.next
+abbrev pub EntrySaid : List (List FaceDart) → List ℕ → List ℕ → ℕ → Option Entry → Type 0
+EntrySaid fs z s at None = (part4 fs).get (drop at s) ≡ none
+EntrySaid fs z s at (Some e) = EntryThere fs z s at e.index.0 e.other e.labels e.next
 
-pub record EntryRead (fs : List (List FaceDart)) (z s : List ℕ) (at : ℕ) (r : EntryOrNot) : Type 0 where
+pub record EntryRead (fs : List (List FaceDart)) (z s : List ℕ) (at : ℕ) (r : Option Entry) : Type 0 where
   pub said : EntrySaid fs z s at r
 
 -- an entry by the arrays

@@ -23,19 +23,17 @@ pub fn read_pairs(
     ensures { EntriesRead (pair part) (first_number part) (index part) s.now at count firsts.new indices.new }
 {
     // The entries below i are read.
-    let mut i = 0;
     let mut p = at;
-    while i < count {
-        let Read::Value(first, past) = entry::read_first(s, p, part) else {
+    for i in 0..count {
+        let Some((first, past)) = entry::read_first(s, p, part) else {
             return;
         };
-        let Read::Value(index, next) = reader::read_group(s, past) else {
+        let Some((index, next)) = reader::read_group(s, past) else {
             return;
         };
         firsts[i] = first;
         indices[i] = index;
         p = next;
-        i += 1;
     }
 }
 
@@ -48,30 +46,18 @@ pub struct Entry {
     pub next: usize,
 }
 
-#[derive(Clone, Copy)]
-pub enum EntryOrNot {
-    Entry(Entry),
-    Not,
-}
-
-fn read_entry(s: &[u8], at: usize, darts: usize, sizes: &[usize]) -> EntryOrNot
+fn read_entry(s: &[u8], at: usize, darts: usize, sizes: &[usize]) -> Option<Entry>
     requires { darts ≤ length sizes.now }
     ensures { (fs : List (List FaceDart)) → Sized fs darts sizes.now → EntryRead fs sizes.now s.now at result }
 {
-    let Read::Value(index, past) = reader::read_group(s, at) else {
-        return EntryOrNot::Not;
-    };
+    let (index, past) = reader::read_group(s, at)?;
     if darts as u64 <= index {
-        return EntryOrNot::Not;
+        return None;
     }
-    let Read::Value(other, labels) = reader::read_at_most(s, past, Header::BLOCKS - 1) else {
-        return EntryOrNot::Not;
-    };
+    let (other, labels) = reader::read_at_most(s, past, Header::BLOCKS - 1)?;
     let size = place::size_at(sizes, MessageIndex(index as usize));
-    let Read::Value(n, next) = entry::pass_labels(s, labels, size as u64) else {
-        return EntryOrNot::Not;
-    };
-    EntryOrNot::Entry(Entry {
+    let (n, next) = entry::pass_labels(s, labels, size as u64)?;
+    Some(Entry {
         index: MessageIndex(index as usize),
         other,
         labels,
@@ -94,10 +80,9 @@ pub fn read_part4(
     ensures { (fs : List (List FaceDart)) → Sized fs darts sizes.now → Part4Read fs sizes.now s.now at count indices.new others.new places.new }
 {
     // The entries below i are read.
-    let mut i = 0;
     let mut p = at;
-    while i < count {
-        let EntryOrNot::Entry(entry) = read_entry(s, p, darts, sizes) else {
+    for i in 0..count {
+        let Some(entry) = read_entry(s, p, darts, sizes) else {
             return;
         };
         let index = entry.index;
@@ -105,6 +90,5 @@ pub fn read_part4(
         others[i] = entry.other;
         places[i] = entry.labels;
         p = entry.next;
-        i += 1;
     }
 }

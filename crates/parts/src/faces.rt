@@ -15,10 +15,8 @@ pub fn fill(array: &mut [u64], at: MessageIndex, n: usize, word: u64)
 {
     let first = at.0;
     // The first j are put.
-    let mut j = 0;
-    while j < n {
+    for j in 0..n {
         array[first + j] = word;
-        j += 1;
     }
 }
 
@@ -29,10 +27,8 @@ fn count_up(array: &mut [u64], at: MessageIndex, n: usize, least: u64)
 {
     let first = at.0;
     // The first j are put.
-    let mut j = 0;
-    while j < n {
+    for j in 0..n {
         array[first + j] = least + j as u64;
-        j += 1;
     }
 }
 
@@ -43,15 +39,13 @@ fn put_codes(message: &[u8], from: usize, array: &mut [u64], at: MessageIndex, n
 {
     let first = at.0;
     // The first j are put.
-    let mut j = 0;
     let mut p = from;
-    while j < n {
-        let Read::Value(code, next) = reader::read_label(message, p) else {
+    for j in 0..n {
+        let Some((code, next)) = reader::read_label(message, p) else {
             return;
         };
         array[first + j] = code;
         p = next;
-        j += 1;
     }
 }
 
@@ -70,8 +64,7 @@ pub fn put_part3(
     ensures { Faced sizes.now indices.now c (λ e j. 2 + 4 * from) kinds.old kinds.new × Faced sizes.now indices.now c (numbered_code from numbers.now) links.old links.new }
 {
     // The faces before e have their links.
-    let mut e = 0;
-    while e < c {
+    for e in 0..c {
         let i = place::entry_index(indices, e);
         let n = place::size_at(sizes, i);
         fill(kinds, i, n, 2 + 4 * from);
@@ -81,7 +74,6 @@ pub fn put_part3(
             n,
             (from * Header::NUMBERS + numbers[e]) * Header::POSITIONS,
         );
-        e += 1;
     }
 }
 
@@ -101,12 +93,10 @@ pub fn put_part4(
     ensures { Faced sizes.now indices.now c (λ e j. 2 + 4 * get_or others.now e 0) kinds.old kinds.new × Faced sizes.now indices.now c (λ e. code_at message.now (get_or places.now e 0) (get_or sizes.now (get_or indices.now e 0) 0)) links.old links.new }
 {
     // The faces before e have their links.
-    let mut e = 0;
-    while e < c {
+    for e in 0..c {
         let i = place::entry_index(indices, e);
         let n = place::size_at(sizes, i);
         fill(kinds, i, n, 2 + 4 * others[e]);
         put_codes(message, places[e], links, i, n);
-        e += 1;
     }
 }

@@ -11,7 +11,6 @@ ghost use Rattle.parts.specs.Fresh.{own_right, own_at, fresh_value, ValuesPut, c
 use memory::header::Header;
 use memory::record::{MessageIndex, Place, Record};
 use memory::{kind, label, record};
-use ranking::Ranking;
 
 // Whether a kind and a link word are not of an own-made label from the counter on.
 fn own_right(number: u64, counter: u64, kind: u64, link: u64) -> bool
@@ -29,12 +28,10 @@ fn all_own(number: u64, counter: u64, kinds: &[u64], links: &[u64], k: usize) ->
     ensures { result ≡ all (own_at number counter kinds.now links.now) (tab (λ q. q) k) }
 {
     // Those before q are not.
-    let mut q = 0;
-    while q < k {
+    for q in 0..k {
         if !own_right(number, counter, kinds[q], links[q]) {
             return false;
         }
-        q += 1;
     }
     true
 }
@@ -56,10 +53,8 @@ fn put_values(kinds: &[u64], links: &[u64], k: usize, values: &mut [u64])
     ensures { ValuesPut kinds.now links.now k values.new }
 {
     // Those before q are put.
-    let mut q = 0;
-    while q < k {
+    for q in 0..k {
         values[q] = fresh_value(kinds[q], links[q], MessageIndex(q));
-        q += 1;
     }
 }
 
@@ -71,7 +66,7 @@ fn clear_at(block: &[u64], p: Place, keys: &[u64], k: usize) -> bool
     if !kind::is_critical(record::field(block, p, Record::KIND)) {
         return true;
     }
-    let Ranking::At(r) = ranking::find(keys, k, record::field(block, p, Record::LINK)) else {
+    let Some(r) = ranking::find(keys, k, record::field(block, p, Record::LINK)) else {
         return true;
     };
     false
@@ -83,12 +78,10 @@ fn all_clear(block: &[u64], n: usize, keys: &[u64], k: usize) -> bool
     ensures { result ≡ all (clear_at block.now (tab (value_at keys.now) k)) (tab (λ p. p) n) }
 {
     // Those before p have none.
-    let mut p = 0;
-    while p < n {
+    for p in 0..n {
         if !clear_at(block, Place(p), keys, k) {
             return false;
         }
-        p += 1;
     }
     true
 }

@@ -38,12 +38,10 @@ fn fit(indices: &[u64], c: usize, starts: &[usize], k: usize, marks: &[u8]) -> b
     ensures { FitTold indices.now starts.now marks.now k c result }
 {
     // Those before e do.
-    let mut e = 0;
-    while e < c {
+    for e in 0..c {
         if !fits_at(indices, e, starts, k, marks) {
             return false;
         }
-        e += 1;
     }
     true
 }
@@ -54,12 +52,10 @@ fn mark(indices: &[u64], c: usize, marks: &mut [u8])
     ensures { MarkedBy (take c indices.now) marks.old marks.new }
 {
     // Those before e are marked.
-    let mut e = 0;
-    while e < c {
+    for e in 0..c {
         let i = place::entry_index(indices, e);
         let at = i.0;
         marks[at] = 1;
-        e += 1;
     }
 }
 

@@ -8,7 +8,6 @@ ghost use Rattle.parts.specs.Locate.{Noted, Located, none_there};
 
 use memory::record::{Place, Record};
 use memory::{kind, record};
-use ranking::Ranking;
 
 // Notes place p for the entry whose label the dart at p has.
 fn note(block: &[u64], p: Place, keys: &[u64], c: usize, places: &mut [usize])
@@ -18,7 +17,7 @@ fn note(block: &[u64], p: Place, keys: &[u64], c: usize, places: &mut [usize])
     if !kind::is_critical(record::field(block, p, Record::KIND)) {
         return;
     }
-    let Ranking::At(r) = ranking::find(keys, c, record::field(block, p, Record::LINK)) else {
+    let Some(r) = ranking::find(keys, c, record::field(block, p, Record::LINK)) else {
         return;
     };
     let e = (keys[r] % ranking::INDICES) as usize;
@@ -39,9 +38,7 @@ pub fn locate(
     ensures { Located block.now codes.now c n places.new }
 {
     // The darts before p are noted.
-    let mut p = 0;
-    while p < n {
+    for p in 0..n {
         note(block, Place(p), keys, c, places);
-        p += 1;
     }
 }

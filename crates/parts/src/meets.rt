@@ -18,15 +18,13 @@ fn walk_face(block: &[u64], n: usize, start: Place, size: usize, trail: &mut [us
 {
     let first = start.0;
     // The darts from `first` up to the one before p are put; none of the steps led back.
-    let mut i = 0;
     let mut p = first;
-    while i < size {
+    for i in 0..size {
         trail[i] = p;
-        i += 1;
         let next = place::next_of(block, Place(p));
         p = next.0;
         if p == first {
-            return i == size;
+            return i + 1 == size;
         }
     }
     false
@@ -81,8 +79,7 @@ fn all_meet(
     let first = at.0;
     // Those before j do.
     let mut ok = true;
-    let mut j = 0;
-    while j < size {
+    for j in 0..size {
         ok = ok
             & meets(
                 block,
@@ -95,7 +92,6 @@ fn all_meet(
                 trail,
                 j,
             );
-        j += 1;
     }
     ok
 }
@@ -132,11 +128,9 @@ fn put_met(trail: &[usize], size: usize, links: &mut [u64], at: MessageIndex)
 {
     let first = at.0;
     // The first j are put.
-    let mut j = 0;
-    while j < size {
+    for j in 0..size {
         let there = met(trail, size, j);
         links[first + j] = there.0 as u64;
-        j += 1;
     }
 }
 
@@ -146,12 +140,10 @@ fn assign(trail: &[usize], size: usize, seen: &mut [u8])
     ensures { Assigned 1 (take size trail.now) seen.old seen.new }
 {
     // The first j are assigned.
-    let mut j = 0;
-    while j < size {
+    for j in 0..size {
         let place = place::place_at(trail, j);
         let p = place.0;
         seen[p] = 1;
-        j += 1;
     }
 }
 
@@ -221,8 +213,7 @@ pub fn part2_right(
     ensures { Part2Told block.now draft.now ranks.now sizes.now places.now indices.now n from c kinds.old kinds.new links.old links.new result }
 {
     // Those before e are right, and the faces that they meet are seen.
-    let mut e = 0;
-    while e < c {
+    for e in 0..c {
         let y = place::place_at(places, e);
         let at = place::entry_index(indices, e);
         let size = place::size_at(sizes, at);
@@ -231,7 +222,6 @@ pub fn part2_right(
         ) {
             return false;
         }
-        e += 1;
     }
     true
 }

@@ -20,12 +20,10 @@ pub fn consecutive(numbers: &[u64], c: usize) -> bool
     ensures { result ≡ all (follows_at numbers.now) (tab (λ e. e) (c - 1)) }
 {
     // Those up to e do.
-    let mut e = 0;
-    while e + 1 < c {
+    for e in 0..c.saturating_sub(1) {
         if !follows(numbers[e], numbers[e + 1]) {
             return false;
         }
-        e += 1;
     }
     true
 }
@@ -35,12 +33,10 @@ pub fn neither(others: &[u64], c: usize, from: u64, to: u64) -> bool
     requires { c ≤ length others.now }
     ensures { result ≡ all (neither_at others.now from to) (tab (λ e. e) c) }
 {
-    // Those before e are.
+    // Those before `other` are.
     let mut ok = true;
-    let mut e = 0;
-    while e < c {
-        ok = ok & ((others[e] != from) & (others[e] != to));
-        e += 1;
+    for other in &others[..c] {
+        ok = ok & ((*other != from) & (*other != to));
     }
     ok
 }

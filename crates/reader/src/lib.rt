@@ -16,127 +16,71 @@ pub struct Reader<'a> {
     pub last: Read,
 }
 
-// Before the first read: a value that nobody asks for, and the place where the first one stands.
-fn start(at: usize) -> Read
-    ensures { result ≡ Read.Value 0 at }
-{
-    Read::Value(0, at)
-}
-
-// The reader of a message, at a place.
-pub fn open<'a>(src: &'a [u8], at: usize) -> Reader<'a>
-    ensures { (result.src ≡ src.entry) × (result.last ≡ Read.Value 0 at) }
-{
-    Reader {
-        src,
-        last: start(at),
+impl<'a> Reader<'a> {
+    // The reader of a message, at a place: before the first read, a value that nobody asks for.
+    pub fn open(src: &'a [u8], at: usize) -> Reader<'a>
+        ensures { (result.src ≡ src.entry) × (result.last ≡ Some (0, at)) }
+    {
+        Reader {
+            src,
+            last: Some((0, at)),
+        }
     }
-}
 
-// What was read last.
-pub fn last<'a>(r: Reader<'a>) -> Read
-    ensures { result ≡ r.entry.last }
-{
-    r.last
-}
-
-// The number after what was read last.
-fn number_after(s: &[u8], last: Read) -> Read
-    ensures { result ≡ read_after group s.now last }
-{
-    let Read::Value(v, at) = last else {
-        return Read::Bad;
-    };
-    groups::read_group(s, at)
-}
-
-// The reader moved on by a number.
-pub fn number<'a>(r: Reader<'a>) -> Reader<'a>
-    ensures { (result.src ≡ r.entry.src) × (result.last ≡ read_after group r.entry.src.now r.entry.last) }
-{
-    Reader {
-        src: r.src,
-        last: number_after(r.src, r.last),
+    // What was read last.
+    pub fn last(self) -> Read
+        ensures { result ≡ self.entry.last }
+    {
+        self.last
     }
-}
 
-// The serial after what was read last.
-fn serial_after(s: &[u8], last: Read) -> Read
-    ensures { result ≡ read_after serial s.now last }
-{
-    let Read::Value(v, at) = last else {
-        return Read::Bad;
-    };
-    groups::read_serial(s, at)
-}
-
-// The reader moved on by a serial.
-pub fn serial<'a>(r: Reader<'a>) -> Reader<'a>
-    ensures { (result.src ≡ r.entry.src) × (result.last ≡ read_after serial r.entry.src.now r.entry.last) }
-{
-    Reader {
-        src: r.src,
-        last: serial_after(r.src, r.last),
+    // The reader moved on by a number.
+    pub fn number(self) -> Reader<'a>
+        ensures { (result.src ≡ self.entry.src) × (result.last ≡ read_after group self.entry.src.now self.entry.last) }
+    {
+        let src = self.src;
+        let last = self.last.and_then(|(_, at)| groups::read_group(src, at));
+        Reader { src, last }
     }
-}
 
-// The label after what was read last, as its code.
-fn label_after(s: &[u8], last: Read) -> Read
-    ensures { result ≡ read_after label_code s.now last }
-{
-    let Read::Value(v, at) = last else {
-        return Read::Bad;
-    };
-    groups::read_label(s, at)
-}
-
-// The reader moved on by a label, as its code.
-pub fn label<'a>(r: Reader<'a>) -> Reader<'a>
-    ensures { (result.src ≡ r.entry.src) × (result.last ≡ read_after label_code r.entry.src.now r.entry.last) }
-{
-    Reader {
-        src: r.src,
-        last: label_after(r.src, r.last),
+    // The reader moved on by a serial.
+    pub fn serial(self) -> Reader<'a>
+        ensures { (result.src ≡ self.entry.src) × (result.last ≡ read_after serial self.entry.src.now self.entry.last) }
+    {
+        let src = self.src;
+        let last = self.last.and_then(|(_, at)| groups::read_serial(src, at));
+        Reader { src, last }
     }
-}
 
-// The coordinate after what was read last, as its word.
-fn coordinate_after(s: &[u8], last: Read) -> Read
-    ensures { result ≡ read_after coordinate s.now last }
-{
-    let Read::Value(v, at) = last else {
-        return Read::Bad;
-    };
-    groups::read_coordinate(s, at)
-}
-
-// The reader moved on by a coordinate, as its word.
-pub fn coordinate<'a>(r: Reader<'a>) -> Reader<'a>
-    ensures { (result.src ≡ r.entry.src) × (result.last ≡ read_after coordinate r.entry.src.now r.entry.last) }
-{
-    Reader {
-        src: r.src,
-        last: coordinate_after(r.src, r.last),
+    // The reader moved on by a label, as its code.
+    pub fn label(self) -> Reader<'a>
+        ensures { (result.src ≡ self.entry.src) × (result.last ≡ read_after label_code self.entry.src.now self.entry.last) }
+    {
+        let src = self.src;
+        let last = self.last.and_then(|(_, at)| groups::read_label(src, at));
+        Reader { src, last }
     }
-}
 
-// The number after what was read last, where it is at most so large.
-fn at_most_after(s: &[u8], last: Read, most: u64) -> Read
-    ensures { result ≡ read_after (at_most most) s.now last }
-{
-    let Read::Value(v, at) = last else {
-        return Read::Bad;
-    };
-    groups::read_at_most(s, at, most)
-}
+    // The reader moved on by a coordinate, as its word.
+    pub fn coordinate(self) -> Reader<'a>
+        ensures { (result.src ≡ self.entry.src) × (result.last ≡ read_after coordinate self.entry.src.now self.entry.last) }
+    {
+        let src = self.src;
+        let last = self
+            .last
+            .and_then(|(_, at)| groups::read_coordinate(src, at));
+        Reader { src, last }
+    }
 
-// The reader moved on by a number that is at most so large.
-pub fn at_most<'a>(r: Reader<'a>, most: u64) -> Reader<'a>
-    ensures { (result.src ≡ r.entry.src) × (result.last ≡ read_after (at_most most) r.entry.src.now r.entry.last) }
-{
-    Reader {
-        src: r.src,
-        last: at_most_after(r.src, r.last, most),
+    // The reader moved on by a number that is at most so large.
+    pub fn at_most(self, most: u64) -> Reader<'a>
+        ensures { (result.src ≡ self.entry.src) × (result.last ≡ read_after (at_most most) self.entry.src.now self.entry.last) }
+    {
+        let src = self.src;
+        let last = self
+            .last
+            .and_then(|(_, at)| groups::read_at_most(src, at, most));
+        Reader { src, last }
     }
 }
 
@@ -144,35 +88,35 @@ pub fn at_most<'a>(r: Reader<'a>, most: u64) -> Reader<'a>
 pub fn read_group(s: &[u8], at: usize) -> Read
     ensures { result ≡ read_at group s.now at }
 {
-    last(number(open(s, at)))
+    Reader::open(s, at).number().last()
 }
 
 // The serial at a place of a message.
 pub fn read_serial(s: &[u8], at: usize) -> Read
     ensures { result ≡ read_at serial s.now at }
 {
-    last(serial(open(s, at)))
+    Reader::open(s, at).serial().last()
 }
 
 // The label at a place of a message, as its code.
 pub fn read_label(s: &[u8], at: usize) -> Read
     ensures { result ≡ read_at label_code s.now at }
 {
-    last(label(open(s, at)))
+    Reader::open(s, at).label().last()
 }
 
 // The coordinate at a place of a message, as its word.
 pub fn read_coordinate(s: &[u8], at: usize) -> Read
     ensures { result ≡ read_at coordinate s.now at }
 {
-    last(coordinate(open(s, at)))
+    Reader::open(s, at).coordinate().last()
 }
 
 // The number at a place of a message, where it is at most so large.
 pub fn read_at_most(s: &[u8], at: usize, most: u64) -> Read
     ensures { result ≡ read_at (at_most most) s.now at }
 {
-    last(at_most(open(s, at), most))
+    Reader::open(s, at).at_most(most).last()
 }
 
 // The four numbers that a message begins with; the body is what the first one counts, and next is past the last one.
@@ -186,29 +130,15 @@ pub struct Head {
     pub next: usize,
 }
 
-#[derive(Clone, Copy)]
-pub enum HeadOrNot {
-    Head(Head),
-    Not,
-}
-
 // The head of four numbers that were read one after the other.
-fn head_of(length: Read, kind: Read, from: Read, to: Read) -> HeadOrNot
+fn head_of(length: Read, kind: Read, from: Read, to: Read) -> Option<Head>
     ensures { result ≡ head_of length kind from to }
 {
-    let Read::Value(n, body) = length else {
-        return HeadOrNot::Not;
-    };
-    let Read::Value(k, past) = kind else {
-        return HeadOrNot::Not;
-    };
-    let Read::Value(f, after) = from else {
-        return HeadOrNot::Not;
-    };
-    let Read::Value(t, next) = to else {
-        return HeadOrNot::Not;
-    };
-    HeadOrNot::Head(Head {
+    let (n, body) = length?;
+    let (k, past) = kind?;
+    let (f, after) = from?;
+    let (t, next) = to?;
+    Some(Head {
         length: n,
         body,
         kind: k,
@@ -219,12 +149,12 @@ fn head_of(length: Read, kind: Read, from: Read, to: Read) -> HeadOrNot
 }
 
 // The head of a message, by one reader that is kept from its first byte on.
-pub fn read_head(s: &[u8]) -> HeadOrNot
+pub fn read_head(s: &[u8]) -> Option<Head>
     ensures { result ≡ head_in s.now }
 {
-    let length = number(open(s, 0));
-    let kind = number(length);
-    let from = number(kind);
-    let to = number(from);
-    head_of(last(length), last(kind), last(from), last(to))
+    let length = Reader::open(s, 0).number();
+    let kind = length.number();
+    let from = kind.number();
+    let to = from.number();
+    head_of(length.last(), kind.last(), from.last(), to.last())
 }

@@ -1,4 +1,6 @@
 -- Darts that are read one after the other and stored from the first place on. Assumes nothing.
+use Rattle.std.proofs.lemmas.Option.{some_pair_parts}
+use Rattle.std.specs.Prelude.{None, Some}
 use mathlib.Core.Path.{◌≡◌, refl, sym, ap, ◌∙◌}
 use mathlib.Core.Bool.{true, false}
 use mathlib.Core.List.{List, [], ◌∷◌, ◌++◌, append-nil}
@@ -18,7 +20,6 @@ use Rattle.model.specs.Messages.{a_dart}
 use Rattle.theory.proofs.LayoutLaws.{same_value, then_some, when_some}
 use Rattle.memory.specs.Record.{record_words, put}
 use Rattle.memory.specs.declared.record.Record.{Record}
-use Rattle.groups.specs.declared.Read.TheVariants as read
 use Rattle.groups.proofs.Ends.{from_onward, place_back}
 use Rattle.codec.specs.declared.dart.FileDart.{FileDart}
 use Rattle.codec.specs.Taken.{Took}
@@ -26,9 +27,8 @@ use Rattle.codec.proofs.Taking.{Lacks, took_reads}
 use Rattle.codec.proofs.DartReads.{dart_ends, DartGot}
 use Rattle.newblock.specs.Serials.{raw_words, stored_all}
 use Rattle.newblock.proofs.Rows.{behind_none}
-use Rattle.newblock.proofs.Stored.{stored_length, stored_more}
+use Rattle.newblock.proofs.Stored.{stored_more}
 use Rattle.readfile.specs.Parts.{dart_after, placed_serial, with_dart, DartStored, climbs, climbing, DartsStored}
-use Rattle.readfile.specs.declared.raw.End.TheVariants as end
 
 -- ONE DART
 -- the record that is stored of a file's dart: its values, word for word
@@ -36,23 +36,23 @@ abbrev as_record : FileDart → Record
 as_record v = record { serial = v.serial; next = v.next; opposite = v.opposite; kind = v.kind; link = v.link; x = v.x; y = v.y; z = v.z }
 
 module _ {s : List ℕ} {at : ℕ} (last : ℕ) (m : List ℕ) (p : ℕ) where
-  pub no_dart_stored : Lacks a_dart s at → DartStored s at last m p m read.Bad
+  pub no_dart_stored : Lacks a_dart s at → DartStored s at last m p m None
   no_dart_stored e = record { answer = unfold dart_after such_that in (rw e.value); memory = unfold dart_after such_that in (rw e.value) }
 
   module _ {v : FileDart} {next : ℕ} (g : DartGot s at v next) where
     serial_is : v.serial ≡ g.dart.serial
     serial_is = ap (λ (w : FileDart). w.serial) g.values_are
 
-    pub not_above : v.serial ≤ last → DartStored s at last m p m read.Bad
+    pub not_above : v.serial ≤ last → DartStored s at last m p m None
     not_above h =
         let low = le-ltb last g.dart.serial (omega (arith, serial_is)) in
         record { answer = unfold dart_after such_that in (rw (g.reads.value, low)); memory = unfold dart_after such_that in (rw (g.reads.value, low)) }
 
-    pub dart_stored : last < v.serial → {after : List ℕ} → after ≡ put m p (record_words (as_record v)) → DartStored s at last m p after (read.Value v.serial next)
+    pub dart_stored : last < v.serial → {after : List ℕ} → after ≡ put m p (record_words (as_record v)) → DartStored s at last m p after (Some (v.serial, next))
     dart_stored h e =
         let high = lt-ltb last g.dart.serial (omega (arith, serial_is)) in
         record {
-          answer = unfold dart_after such_that in (rw (g.reads.value, high, place_back s next g.reads.within) (ap (λ (x : ℕ). read.Value x next) serial_is));
+          answer = unfold dart_after such_that in (rw (g.reads.value, high, place_back s next g.reads.within) (ap (λ (x : ℕ). Some (x, next)) serial_is));
           memory = unfold dart_after such_that raw_words in (rw (g.reads.value, high) (e ∙ ap (λ (w : FileDart). put m p (record_words (as_record w))) g.values_are));
         }
 
@@ -65,15 +65,16 @@ pub record StoredGot (s : List ℕ) (at last : ℕ) (m : List ℕ) (p : ℕ) (af
   pub memory_is : after ≡ put m p (raw_words dart)
 
 pub stored_got : {s : List ℕ} {at last : ℕ} {m : List ℕ} {p : ℕ} {after : List ℕ} {serial next : ℕ}
-    → DartStored s at last m p after (read.Value serial next) → StoredGot s at last m p after serial next
+    → DartStored s at last m p after (Some (serial, next)) → StoredGot s at last m p after serial next
 unfolding dart_after such_that
 stored_got {s} {at} {last} {m} {p} {after} {serial} {next} w = go ((dart_after last).get (drop at s)) refl w.answer w.memory
   where
-    go : (r : Option (Dart × List ℕ)) → (dart_after last).get (drop at s) ≡ r → read.Value serial next ≡ placed_serial (length s) r → after ≡ with_dart m p r → StoredGot s at last m p after serial next
+    go : (r : Option (Dart × List ℕ)) → (dart_after last).get (drop at s) ≡ r → Some (serial, next) ≡ placed_serial (length s) r → after ≡ with_dart m p r → StoredGot s at last m p after serial next
     go none e q k = let z : ◌≡◌ {A = ℕ} 0 1 = cc in absurd (omega arith)
     go (some r) e q k =
-        let es : serial ≡ r.0.serial = cc in
-        let en : next ≡ length s - length r.1 = cc in
+        let both = some_pair_parts serial r.0.serial next (length s - length r.1) q in
+        let es : serial ≡ r.0.serial = both.0 in
+        let en : next ≡ length s - length r.1 = both.1 in
         let t = then_some (a_dart.get (drop at s)) _ _ e in
         let g = when_some (ltb last t.0.serial) _ _ t.3 in
         let got : a_dart.get (drop at s) ≡ some r = t.2 ∙ g.1 in
@@ -87,10 +88,10 @@ stored_got {s} {at} {last} {m} {p} {after} {serial} {next} w = go ((dart_after l
         }
 
 -- no dart, or one that is not above
-pub stored_lacks : {s : List ℕ} {at last : ℕ} {m : List ℕ} {p : ℕ} {after : List ℕ} → DartStored s at last m p after read.Bad → Lacks (dart_after last) s at
+pub stored_lacks : {s : List ℕ} {at last : ℕ} {m : List ℕ} {p : ℕ} {after : List ℕ} → DartStored s at last m p after None → Lacks (dart_after last) s at
 stored_lacks {s} {at} {last} w = record { value = go ((dart_after last).get (drop at s)) w.answer }
   where
-    go : (r : Option (Dart × List ℕ)) → read.Bad ≡ placed_serial (length s) r → r ≡ none
+    go : (r : Option (Dart × List ℕ)) → None ≡ placed_serial (length s) r → r ≡ none
     go none q = refl
     go (some r) q = let z : ◌≡◌ {A = ℕ} 0 1 = cc in absurd (omega arith)
 
@@ -148,14 +149,11 @@ fill_start s from n m h =
     }
 
 module _ {s : List ℕ} {from n : ℕ} {m x : List ℕ} {i last at : ℕ} (w : Filling s from n m x i last at) where
-  pub fill_length : 8 + n * 8 ≤ length m → length x ≡ length m
-  fill_length h = ap length w.memory_is ∙ stored_length m w.done (omega (arith, w.count, w.i_le))
-
   one_fewer : i < n → (bs : List ℕ) → get_all a_dart (n - i) bs ≡ then (a_dart.get bs) (λ d rest. then (get_all a_dart (n - (i + 1)) rest) (λ ds rest'. some (d ∷ ds, rest')))
   unfolding get_all
   one_fewer more bs = let e : n - i ≡ suc (n - (i + 1)) = omega arith in rw e refl
 
-  pub fill_more : i < n → 8 + n * 8 ≤ length m → {after : List ℕ} {serial next : ℕ} → DartStored s at last x i after (read.Value serial next) → Filling s from n m after (i + 1) serial next
+  pub fill_more : i < n → 8 + n * 8 ≤ length m → {after : List ℕ} {serial next : ℕ} → DartStored s at last x i after (Some (serial, next)) → Filling s from n m after (i + 1) serial next
   fill_more more h {after} {serial} {next} k =
       let g = stored_got k in
       let step : get_all a_dart (n - i) (drop at s) ≡ then (get_all a_dart (n - (i + 1)) (drop next s)) (λ ds rest. some (g.dart ∷ ds, rest)) =
@@ -190,7 +188,7 @@ module _ {s : List ℕ} {from n : ℕ} {m x : List ℕ} {i last at : ℕ} (w : F
       first none q = refl
       first (some r) q = later r.0 (get_all a_dart (n - (i + 1)) r.1) (low_then r.0 r.1 q)
 
-  pub fill_fails : i < n → {after : List ℕ} → DartStored s at last x i after read.Bad → DartsStored s from n m after end.Bad
+  pub fill_fails : i < n → {after : List ℕ} → DartStored s at last x i after None → DartsStored s from n m after None
   fill_fails more k =
       let e = nothing more (stored_lacks k) in
       record { answer = rw e refl; memory = λ ds rest q. absurd (none-ne-some _ (sym e ∙ q)) }
@@ -203,7 +201,7 @@ module _ {s : List ℕ} {from n : ℕ} {m x : List ℕ} {i last at : ℕ} (w : F
       let got : get_all a_dart n (drop from s) ≡ some (w.done, drop at s) = w.so_far ∙ rw z (ap (λ (l : List Dart). some (l, drop at s)) (append-nil w.done)) in
       rw (got, climbs_all last w.done w.ordered)
 
-  pub fill_ends : n ≤ i → DartsStored s from n m x (end.At at)
+  pub fill_ends : n ≤ i → DartsStored s from n m x (Some at)
   fill_ends h =
       let e = everything h in
       record {

@@ -1,4 +1,5 @@
 -- Question 3: the parts of a file that are read one after the other make the whole, and the memory is filled with it. Assumes nothing.
+use Rattle.std.specs.Prelude.{None, Some}
 use mathlib.Core.Path.{◌≡◌, refl, sym, ap, ◌∙◌}
 use mathlib.Core.Bool.{true, false, ◌&&◌}
 use mathlib.Core.List.{List, [], ◌∷◌, ◌++◌}
@@ -25,7 +26,6 @@ use Rattle.codec.proofs.DartReads.{dart_ends}
 use Rattle.newblock.specs.Serials.{raw}
 use Rattle.newblock.proofs.Stored.{stored_raw}
 use Rattle.readfile.specs.Parts.{climbs, climbing, placed_end, DartsStored, RawRead}
-use Rattle.readfile.specs.declared.raw.End.TheVariants as end
 
 -- ORDER: each above the one before is all above the first, and ascending
 climbs_first : (last : ℕ) (xs : List ℕ) → climbs last xs ≡ true → all (ltb last) xs ≡ true
@@ -135,10 +135,10 @@ module _ (lim : Limits) where
             go none e = rw e (by_darts none e)
             go (some v) e = rw e (by_darts (some v) e ∙ ap at_end (tested v.0 v.1 (get_all_length a_dart n (drop c s) v.0 v.1 e)))
 
-        pub no_darts : n ≤ lim.block_darts → end.Bad ≡ placed_end (length s) ((climbing n).get (drop c s)) → whole (file lim) s ≡ none
+        pub no_darts : n ≤ lim.block_darts → None ≡ placed_end (length s) ((climbing n).get (drop c s)) → whole (file lim) s ≡ none
         no_darts h k = go ((climbing n).get (drop c s)) refl k
           where
-            go : (w : Read (List Dart)) → (climbing n).get (drop c s) ≡ w → end.Bad ≡ placed_end (length s) w → whole (file lim) s ≡ none
+            go : (w : Read (List Dart)) → (climbing n).get (drop c s) ≡ w → None ≡ placed_end (length s) w → whole (file lim) s ≡ none
             go none e q = by_climbing h none e
             go (some w) e q = let z : ◌≡◌ {A = ℕ} 0 1 = cc in absurd (omega arith)
 
@@ -148,17 +148,17 @@ module _ (lim : Limits) where
           value : (climbing n).get (drop c s) ≡ some (darts, rest)
           next_is : next ≡ length s - length rest
 
-        some_darts : {next : ℕ} → end.At next ≡ placed_end (length s) ((climbing n).get (drop c s)) → Darts next
+        some_darts : {next : ℕ} → Some next ≡ placed_end (length s) ((climbing n).get (drop c s)) → Darts next
         some_darts {next} k = go ((climbing n).get (drop c s)) refl k
           where
-            go : (w : Read (List Dart)) → (climbing n).get (drop c s) ≡ w → end.At next ≡ placed_end (length s) w → Darts next
+            go : (w : Read (List Dart)) → (climbing n).get (drop c s) ≡ w → Some next ≡ placed_end (length s) w → Darts next
             go none e q = let z : ◌≡◌ {A = ℕ} 0 1 = cc in absurd (omega arith)
             go (some w) e q = let en : next ≡ length s - length w.1 = cc in record { darts = w.0; rest = w.1; value = e; next_is = en }
 
         rest_short : {next : ℕ} (d : Darts next) → length d.rest ≤ length s
         rest_short d = omega (arith, all_short a_dart dart_ends n (drop c s) d.darts d.rest (climbing_all n (drop c s) d.darts d.rest d.value), length-drop c s)
 
-        pub left_over : n ≤ lim.block_darts → {next : ℕ} → end.At next ≡ placed_end (length s) ((climbing n).get (drop c s)) → (next ≡ length s → ⊥) → whole (file lim) s ≡ none
+        pub left_over : n ≤ lim.block_darts → {next : ℕ} → Some next ≡ placed_end (length s) ((climbing n).get (drop c s)) → (next ≡ length s → ⊥) → whole (file lim) s ≡ none
         left_over h k ne = let d = some_darts k in by_climbing h (some (d.darts, d.rest)) d.value ∙ more d.darts d.rest (λ e. ne (d.next_is ∙ e))
           where
             more : (ds : List Dart) (rest : List ℕ) → (length s - length rest ≡ length s → ⊥) → ended (block_of ds) rest ≡ none
@@ -172,7 +172,7 @@ module _ (lim : Limits) where
           pub count : length darts ≡ n
           pub whole_is : whole (file lim) s ≡ some (block_of darts)
 
-        pub all_read : n ≤ lim.block_darts → {next : ℕ} → end.At next ≡ placed_end (length s) ((climbing n).get (drop c s)) → next ≡ length s → AllRead
+        pub all_read : n ≤ lim.block_darts → {next : ℕ} → Some next ≡ placed_end (length s) ((climbing n).get (drop c s)) → next ≡ length s → AllRead
         all_read h k e =
             let d = some_darts k in
             record {
@@ -192,7 +192,7 @@ pub raw_refused : {lim : Limits} {s after : List ℕ} → whole (file lim) s ≡
 raw_refused e = record { answer = rw e; memory = λ b q. absurd (none-ne-some b (sym e ∙ q)) }
 
 pub raw_served : (lim : Limits) {s : List ℕ} {number a counter b n c : ℕ} (p : Took (at_most 15) s 0 number a) (q : Took group s a counter b) (r : Took group s b n c)
-    → n ≤ lim.block_darts → (m : List ℕ) → m ≡ replicate (words_of lim) 0 → {x y : List ℕ} {next : ℕ} → DartsStored s c n m x (end.At next) → next ≡ length s
+    → n ≤ lim.block_darts → (m : List ℕ) → m ≡ replicate (words_of lim) 0 → {x y : List ℕ} {next : ℕ} → DartsStored s c n m x (Some next) → next ≡ length s
     → y ≡ header_words (record { number = number; counter = counter; darts = n }) ++ drop 8 x → RawRead lim s y true
 raw_served lim {s} {number} {a} {counter} {b} {n} {c} p q r h m em {x} {y} {next} k e f =
     let t = all_read lim p q r h k.answer e in

@@ -1,5 +1,6 @@
 -- Darts of a file that are read and stored, and the whole file. Assumes nothing.
-use Rattle.std.specs.Prelude.{◌≡◌, Bool, true, ◌&&◌, List, [], ◌∷◌, ℕ, ◌-◌, ltb, length, drop}
+use Rattle.groups.specs.Slices.{MaybeRead}
+use Rattle.std.specs.Prelude.{◌≡◌, Bool, true, ◌&&◌, List, [], ◌∷◌, ℕ, ◌-◌, ltb, length, drop, None, Option as Optional, Some}
 use Rattle.std.proofs.Math.Option.{Option, none, some}
 use Rattle.model.specs.Lists.{is_some}
 use Rattle.model.specs.Values.{Dart, Block, Limits}
@@ -8,27 +9,23 @@ use Rattle.model.specs.Layouts.{Layout, such_that, times, whole}
 use Rattle.model.specs.Messages.{a_dart, file}
 use Rattle.model.specs.Image.{words_of}
 use Rattle.memory.specs.Record.{put}
-use Rattle.groups.specs.declared.Read.{Read}
-use Rattle.groups.specs.declared.Read.TheVariants as read
 use Rattle.newblock.specs.Serials.{raw_words, raw, stored_all}
-use Rattle.readfile.specs.declared.raw.End.{End}
-use Rattle.readfile.specs.declared.raw.End.TheVariants as end
 
 -- DARTS
 -- a dart whose serial is above the last one
 unfoldable pub dart_after : ℕ → Layout Dart
 dart_after last = such_that a_dart (λ d. ltb last d.serial)
 
-abbrev pub placed_serial : ℕ → Option (Dart × List ℕ) → Read
-placed_serial n none = read.Bad
-placed_serial n (some r) = read.Value r.0.serial (n - length r.1)
+abbrev pub placed_serial : ℕ → Option (Dart × List ℕ) → MaybeRead
+placed_serial n none = None
+placed_serial n (some r) = Some (r.0.serial, (n - length r.1))
 
 abbrev pub with_dart : List ℕ → ℕ → Option (Dart × List ℕ) → List ℕ
 with_dart m p none = m
 with_dart m p (some r) = put m p (raw_words r.0)
 
 -- read at a place, and stored at place p
-pub record DartStored (s : List ℕ) (at last : ℕ) (m : List ℕ) (p : ℕ) (after : List ℕ) (r : Read) : Type 0 where
+pub record DartStored (s : List ℕ) (at last : ℕ) (m : List ℕ) (p : ℕ) (after : List ℕ) (r : MaybeRead) : Type 0 where
   pub answer : r ≡ placed_serial (length s) ((dart_after last).get (drop at s))
   pub memory : after ≡ with_dart m p ((dart_after last).get (drop at s))
 
@@ -41,12 +38,12 @@ climbs last (x ∷ xs) = ltb last x && climbs x xs
 unfoldable pub climbing : ℕ → Layout (List Dart)
 climbing n = such_that (times n a_dart) (λ ds. climbs 0 (serials ds))
 
-abbrev pub placed_end : ℕ → Option (List Dart × List ℕ) → End
-placed_end n none = end.Bad
-placed_end n (some r) = end.At (n - length r.1)
+abbrev pub placed_end : ℕ → Option (List Dart × List ℕ) → Optional ℕ
+placed_end n none = None
+placed_end n (some r) = Some (n - length r.1)
 
 -- read at a place, and stored from the first place on
-pub record DartsStored (s : List ℕ) (from n : ℕ) (m after : List ℕ) (r : End) : Type 0 where
+pub record DartsStored (s : List ℕ) (from n : ℕ) (m after : List ℕ) (r : Optional ℕ) : Type 0 where
   pub answer : r ≡ placed_end (length s) ((climbing n).get (drop from s))
   pub memory : (ds : List Dart) (rest : List ℕ) → (climbing n).get (drop from s) ≡ some (ds, rest) → after ≡ stored_all m ds
 

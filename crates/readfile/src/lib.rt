@@ -32,10 +32,10 @@ pub fn read_file_by(
     ensures { Gives (read_file (limits_of limits) file.now block.old) (answer_of result) block.new }
 {
     if block.len() != limits.words() {
-        return Answer::Refused(Refusal::MemorySize);
+        return Err(Refusal::MemorySize);
     }
     if !raw::read_raw(file, limits, made) {
-        return Answer::Refused(Refusal::FileLayout);
+        return Err(Refusal::FileLayout);
     }
     newblock::put_block(made, block, seen, keys, table, scratch)
 }

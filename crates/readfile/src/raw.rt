@@ -5,29 +5,19 @@ ghost use Rattle.memory.specs.Header.{limits_of};
 ghost use Rattle.readfile.specs.Parts.{DartStored, DartsStored, RawRead};
 
 use codec::dart;
-use codec::dart::Parsed;
 use groups::Read;
 use memory::header::{Header, Limits};
 use memory::record::{Place, Record};
-
-// Where the darts of a file end.
-#[derive(Clone, Copy)]
-pub enum End {
-    At(usize),
-    Bad,
-}
 
 // Reads a dart with a serial above the last one, and stores it at place p.
 fn store_dart(file: &[u8], at: usize, last: u64, block: &mut [u64], p: Place) -> Read
     requires { words_for (p.0 + 1) ≤ length block.old }
     ensures { DartStored file.now at last block.old p.0 block.new result }
 {
-    let Parsed::Dart(d, next) = dart::read_dart(file, at) else {
-        return Read::Bad;
-    };
+    let (d, next) = dart::read_dart(file, at)?;
     let serial = d.serial;
     if serial <= last {
-        return Read::Bad;
+        return None;
     }
     let r = Record {
         serial,
@@ -40,27 +30,23 @@ fn store_dart(file: &[u8], at: usize, last: u64, block: &mut [u64], p: Place) ->
         z: d.z,
     };
     memory::record::put_record(block, p, r);
-    Read::Value(serial, next)
+    Some((serial, next))
 }
 
-// Reads n darts in ascending serial, and stores them from the first place on.
-fn read_darts(file: &[u8], from: usize, n: usize, block: &mut [u64]) -> End
+// Reads n darts in ascending serial, and stores them from the first place on. The place past them.
+fn read_darts(file: &[u8], from: usize, n: usize, block: &mut [u64]) -> Option<usize>
     requires { (from ≤ length file.now) × (words_for n ≤ length block.old) }
     ensures { DartsStored file.now from n block.old block.new result }
 {
     // The first i darts are stored, in ascending serial up to `last`; what is read at `at` goes on from them.
     let mut at = from;
     let mut last = 0;
-    let mut i = 0;
-    while i < n {
-        let Read::Value(serial, next) = store_dart(file, at, last, block, Place(i)) else {
-            return End::Bad;
-        };
+    for i in 0..n {
+        let (serial, next) = store_dart(file, at, last, block, Place(i))?;
         last = serial;
         at = next;
-        i += 1;
     }
-    End::At(at)
+    Some(at)
 }
 
 // Reads a file to its last byte: block, counter, dart count, darts. Whether it could be read, with no more darts than the limits say.
@@ -68,20 +54,20 @@ pub fn read_raw(file: &[u8], limits: Limits, block: &mut [u64]) -> bool
     requires { block.old ≡ replicate (words_of (limits_of limits)) 0 }
     ensures { RawRead (limits_of limits) file.now block.new result }
 {
-    let Read::Value(number, past_number) = groups::read_at_most(file, 0, Header::BLOCKS - 1) else {
+    let Some((number, past_number)) = groups::read_at_most(file, 0, Header::BLOCKS - 1) else {
         return false;
     };
-    let Read::Value(counter, past_counter) = groups::read_group(file, past_number) else {
+    let Some((counter, past_counter)) = groups::read_group(file, past_number) else {
         return false;
     };
-    let Read::Value(count, past_count) = groups::read_group(file, past_counter) else {
+    let Some((count, past_count)) = groups::read_group(file, past_counter) else {
         return false;
     };
     if (limits.block as u64) < count {
         return false;
     }
     let n = count as usize;
-    let End::At(past) = read_darts(file, past_count, n, block) else {
+    let Some(past) = read_darts(file, past_count, n, block) else {
         return false;
     };
     if past != file.len() {

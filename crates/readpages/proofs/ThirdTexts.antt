@@ -1,4 +1,5 @@
 -- Third links in their columns: the parts of each text, and that what stands there is one or none. Assumes nothing.
+use Rattle.std.specs.Prelude.{None, Option, Some}
 use mathlib.Core.Path.{◌≡◌, refl, sym, ◌∙◌, ap}
 use mathlib.Core.Bool.{true, false}
 use mathlib.Core.List.{List, [], ◌∷◌, ◌++◌, append_assoc}
@@ -19,8 +20,6 @@ use Rattle.theory.proofs.TextLaws.{decimal_most, decimal_ten}
 use Rattle.theory.proofs.PageLaws.{LabelSmall, label_small, sewn_small, crit_text, third_short, third_length}
 use Rattle.text.specs.Reading.{Ended}
 use Rattle.text.proofs.Readings.{one_ended}
-use Rattle.codec.specs.declared.third.Linked.{Linked}
-use Rattle.codec.specs.declared.third.Linked.TheVariants as linked
 use Rattle.readpages.specs.Thirds.{ThirdAt, LinkAt, ThirdRead, SewnAt, CriticalRead, ended, label_text, LabelAt, CodeAt}
 
 -- THE TEXTS IN PARTS, each number with the byte behind it
@@ -383,6 +382,6 @@ module _ {s : List ℕ} {at : ℕ} where
   only_free a b none (sewn v) w = b (sewn_letter w)
   only_free a b none (critical o l) w = a (critical_letter w)
 
-pub by_critical : (s : List ℕ) (at : ℕ) (r : Linked) → get_or s at 0 ≡ 99 → CriticalRead s at r → ThirdRead s at r
-by_critical s at (linked.Link k a past) e w = w
-by_critical s at linked.Bad e w = only_critical e w
+pub by_critical : (s : List ℕ) (at : ℕ) (r : Option (ℕ × ℕ × ℕ)) → get_or s at 0 ≡ 99 → CriticalRead s at r → ThirdRead s at r
+by_critical s at (Some (k, a, past)) e w = w
+by_critical s at None e w = only_critical e w

@@ -1,16 +1,13 @@
 -- What is read of a third link in its 48 columns: the one that stands there, or none. Assumes nothing.
-use Rattle.std.specs.Prelude.{◌≡◌, true, List, [], ◌∷◌, ◌++◌, ℕ, ◌+◌, ◌^◌, ◌<◌, length}
+use Rattle.groups.specs.Slices.{MaybeRead}
+use Rattle.std.specs.Prelude.{◌≡◌, true, List, [], ◌∷◌, ◌++◌, ℕ, ◌+◌, ◌^◌, ◌<◌, length, None, Option, Some}
 use Rattle.laws.specs.Standing.{Stands}
 use Rattle.model.specs.Values.{Label, Third, sewn, critical, code}
 use Rattle.model.specs.Text.{decimal}
 use Rattle.model.specs.Image.{kind_word}
 use Rattle.model.specs.Messages.{third_ok}
 use Rattle.model.specs.Pages.{third_column}
-use Rattle.groups.specs.declared.Read.{Read}
-use Rattle.groups.specs.declared.Read.TheVariants as read
 use Rattle.codec.specs.Thirds.{named_by}
-use Rattle.codec.specs.declared.third.Linked.{Linked}
-use Rattle.codec.specs.declared.third.Linked.TheVariants as linked
 
 -- a third link stands in the columns, and these are its words
 pub record ThirdAt (s : List ℕ) (at : ℕ) (t : Third) : Type 0 where
@@ -24,22 +21,22 @@ pub record LinkAt (s : List ℕ) (at k a past : ℕ) : Type 0 where
   pub link_is : a ≡ named_by third
   pub past_is : past ≡ at + 48
 
-abbrev pub ThirdRead : List ℕ → ℕ → Linked → Type 0
-ThirdRead s at (linked.Link k a past) = LinkAt s at k a past
-ThirdRead s at linked.Bad = (t : Third) → ThirdAt s at t → ⊥
+abbrev pub ThirdRead : List ℕ → ℕ → Option (ℕ × ℕ × ℕ) → Type 0
+ThirdRead s at (Some (k, a, past)) = LinkAt s at k a past
+ThirdRead s at None = (t : Third) → ThirdAt s at t → ⊥
 
 -- a sewn one alone, a critical one alone
 pub record SewnAt (s : List ℕ) (at v past : ℕ) : Type 0 where
   pub there : ThirdAt s at (sewn v)
   pub past_is : past ≡ at + 48
 
-abbrev pub SewnRead : List ℕ → ℕ → Read → Type 0
-SewnRead s at (read.Value v past) = SewnAt s at v past
-SewnRead s at read.Bad = (v : ℕ) → ThirdAt s at (sewn v) → ⊥
+abbrev pub SewnRead : List ℕ → ℕ → MaybeRead → Type 0
+SewnRead s at (Some (v, past)) = SewnAt s at v past
+SewnRead s at None = (v : ℕ) → ThirdAt s at (sewn v) → ⊥
 
-abbrev pub CriticalRead : List ℕ → ℕ → Linked → Type 0
-CriticalRead s at (linked.Link k a past) = LinkAt s at k a past
-CriticalRead s at linked.Bad = (o : ℕ) (l : Label) → ThirdAt s at (critical o l) → ⊥
+abbrev pub CriticalRead : List ℕ → ℕ → Option (ℕ × ℕ × ℕ) → Type 0
+CriticalRead s at (Some (k, a, past)) = LinkAt s at k a past
+CriticalRead s at None = (o : ℕ) (l : Label) → ThirdAt s at (critical o l) → ⊥
 
 -- a label: a number, and the byte behind it, three times
 abbrev pub ended : ℕ → ℕ → List ℕ
@@ -60,6 +57,6 @@ pub record CodeAt (s : List ℕ) (from v past : ℕ) : Type 0 where
   pub code_is : v ≡ code label
   pub past_is : past ≡ from + length (label_text label)
 
-abbrev pub LabelRead : List ℕ → ℕ → Read → Type 0
-LabelRead s from (read.Value v past) = CodeAt s from v past
-LabelRead s from read.Bad = (l : Label) → LabelAt s from l → ⊥
+abbrev pub LabelRead : List ℕ → ℕ → MaybeRead → Type 0
+LabelRead s from (Some (v, past)) = CodeAt s from v past
+LabelRead s from None = (l : Label) → LabelAt s from l → ⊥

@@ -36,11 +36,9 @@ fn least_counter(block: &[u64], n: usize) -> u64
     ensures { result ≡ counter_above (get_or block.now 0 0) (labels (tab (raw_dart block.now) n)) }
 {
     let me = block[Header::NUMBER];
-    // The counter is above the labels of the darts from i on.
+    // The counter is above the labels of the darts after i.
     let mut c = 0;
-    let mut i = n;
-    while 0 < i {
-        i -= 1;
+    for i in (0..n).rev() {
         let kind = record::field(block, Place(i), Record::KIND);
         let link = record::field(block, Place(i), Record::LINK);
         c = above(c, me, kind, link);

@@ -36,10 +36,10 @@ pub fn read_pages_by(
     ensures { Gives (read_pages (limits_of limits) pages.now block.old) (answer_of result) block.new }
 {
     if block.len() != limits.words() {
-        return Answer::Refused(Refusal::MemorySize);
+        return Err(Refusal::MemorySize);
     }
     if !raw::read_raw(pages, limits, made) {
-        return Answer::Refused(Refusal::FileLayout);
+        return Err(Refusal::FileLayout);
     }
     counter::set_least(made);
     newblock::put_links(made, block, seen, keys, table, scratch)

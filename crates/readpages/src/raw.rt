@@ -34,15 +34,13 @@ fn row_count(s: &[u8], total: usize) -> usize
 {
     let most = ROWS * total;
     // The first i rows have serials.
-    let mut i = 0;
-    while i < most {
+    for i in 0..most {
         let at = row_place(i) + 9;
         if s[at] == BLANK {
             return i;
         }
-        i += 1;
     }
-    i
+    most
 }
 
 // Whether a number stands right-aligned in ten columns.
@@ -51,8 +49,8 @@ fn column_is(s: &[u8], at: usize, v: u64) -> bool
     ensures { (result ≡ true) ↔ Stands s.now at (number_column v) }
 {
     match text::read_column(s, at) {
-        Read::Value(u, _) => u == v,
-        Read::Bad => false,
+        Some((u, _)) => u == v,
+        None => false,
     }
 }
 
@@ -83,12 +81,10 @@ fn firsts_right(s: &[u8], number: u64, total: usize) -> bool
     ensures { (result ≡ true) ↔ FirstsStand s.now number total }
 {
     // The first k pages do.
-    let mut k = 0;
-    while k < total {
+    for k in 0..total {
         if !first_right(s, k, number, total) {
             return false;
         }
-        k += 1;
     }
     true
 }
@@ -111,12 +107,10 @@ fn rest_blank(s: &[u8], n: usize, total: usize) -> bool
 {
     let most = ROWS * total;
     // Those from n on and before i have.
-    let mut i = n;
-    while i < most {
+    for i in n..most {
         if !blank_at(s, row_place(i)) {
             return false;
         }
-        i += 1;
     }
     true
 }
@@ -128,13 +122,11 @@ fn store_rows(s: &[u8], n: usize, block: &mut [u64]) -> bool
 {
     // The first i rows are stored, in ascending serial up to `last`.
     let mut last = 0;
-    let mut i = 0;
-    while i < n {
-        let Read::Value(serial, _) = row::store_row(s, row_place(i), last, block, Place(i)) else {
+    for i in 0..n {
+        let Some((serial, _)) = row::store_row(s, row_place(i), last, block, Place(i)) else {
             return false;
         };
         last = serial;
-        i += 1;
     }
     true
 }
@@ -163,7 +155,7 @@ pub fn read_raw(s: &[u8], limits: Limits, block: &mut [u64]) -> bool
     if (total == 0) | (70 < total) {
         return false;
     }
-    let Read::Value(number, _) = text::read_column(s, 0) else {
+    let Some((number, _)) = text::read_column(s, 0) else {
         return false;
     };
     if Header::BLOCKS <= number {

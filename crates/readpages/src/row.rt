@@ -4,7 +4,6 @@ ghost use Rattle.model.specs.Image.{words_for};
 ghost use Rattle.readpages.specs.Rows.{RowRead, RowStored};
 
 use crate::third;
-use codec::third::Linked;
 use groups::Read;
 use memory::record::{Place, Record};
 
@@ -26,36 +25,22 @@ pub struct Row {
     pub link: u64,
 }
 
-#[derive(Clone, Copy)]
-pub enum RowOrNot {
-    Row(Row),
-    Bad,
-}
-
 // The line of a dart: three numbers, two blanks, the third link, a line feed.
-fn read_row(s: &[u8], at: usize) -> RowOrNot
+fn read_row(s: &[u8], at: usize) -> Option<Row>
     requires { at + 81 ≤ length s.now }
     ensures { RowRead s.now at result }
 {
-    let Read::Value(serial, past_serial) = text::read_column(s, at) else {
-        return RowOrNot::Bad;
-    };
-    let Read::Value(next, past_next) = text::read_column(s, past_serial) else {
-        return RowOrNot::Bad;
-    };
-    let Read::Value(opposite, past_opposite) = text::read_column(s, past_next) else {
-        return RowOrNot::Bad;
-    };
+    let (serial, past_serial) = text::read_column(s, at)?;
+    let (next, past_next) = text::read_column(s, past_serial)?;
+    let (opposite, past_opposite) = text::read_column(s, past_next)?;
     if !text::blank(s, past_opposite, 2) {
-        return RowOrNot::Bad;
+        return None;
     }
-    let Linked::Link(kind, link, past) = third::read_third(s, past_opposite + 2) else {
-        return RowOrNot::Bad;
-    };
+    let (kind, link, past) = third::read_third(s, past_opposite + 2)?;
     if s[past] != LINE_FEED {
-        return RowOrNot::Bad;
+        return None;
     }
-    RowOrNot::Row(Row {
+    Some(Row {
         serial,
         next,
         opposite,
@@ -69,12 +54,10 @@ pub fn store_row(s: &[u8], at: usize, last: u64, block: &mut [u64], p: Place) ->
     requires { (at + 81 ≤ length s.now) × (words_for (p.0 + 1) ≤ length block.old) }
     ensures { RowStored s.now at last block.old p.0 block.new result }
 {
-    let RowOrNot::Row(row) = read_row(s, at) else {
-        return Read::Bad;
-    };
+    let row = read_row(s, at)?;
     let serial = row.serial;
     if serial <= last {
-        return Read::Bad;
+        return None;
     }
     let r = Record {
         serial,
@@ -87,5 +70,5 @@ pub fn store_row(s: &[u8], at: usize, last: u64, block: &mut [u64], p: Place) ->
         z: 0,
     };
     memory::record::put_record(block, p, r);
-    Read::Value(serial, at + LINE)
+    Some((serial, at + LINE))
 }

@@ -2,7 +2,6 @@
 ghost use Rattle.std.specs.Prelude.{◌+◌, ◌≤◌, length};
 ghost use Rattle.readpages.specs.Thirds.{SewnRead, LabelRead, CriticalRead, ThirdRead};
 
-use codec::third::Linked;
 use groups::Read;
 use memory::header::Header;
 use memory::{kind, label};
@@ -18,15 +17,13 @@ fn read_sewn(s: &[u8], at: usize) -> Read
     ensures { SewnRead s.now at result }
 {
     if !text::text_at(s, at, b"sewn ") {
-        return Read::Bad;
+        return None;
     }
-    let Read::Value(serial, past) = text::number_before(s, at + NUMBERS, b' ') else {
-        return Read::Bad;
-    };
+    let (serial, past) = text::number_before(s, at + NUMBERS, b' ')?;
     if !text::blank(s, past, at + COLUMNS - past) {
-        return Read::Bad;
+        return None;
     }
-    Read::Value(serial, at + COLUMNS)
+    Some((serial, at + COLUMNS))
 }
 
 // `M.N.P` and a blank: the label's code, and the place past the blank.
@@ -34,49 +31,39 @@ fn read_label(s: &[u8], from: usize) -> Read
     requires { from + 33 ≤ length s.now }
     ensures { LabelRead s.now from result }
 {
-    let Read::Value(maker, past_maker) = text::number_before(s, from, b'.') else {
-        return Read::Bad;
-    };
-    let Read::Value(number, past_number) = text::number_before(s, past_maker, b'.') else {
-        return Read::Bad;
-    };
-    let Read::Value(position, past) = text::number_before(s, past_number, b' ') else {
-        return Read::Bad;
-    };
+    let (maker, past_maker) = text::number_before(s, from, b'.')?;
+    let (number, past_number) = text::number_before(s, past_maker, b'.')?;
+    let (position, past) = text::number_before(s, past_number, b' ')?;
     if Header::BLOCKS <= maker {
-        return Read::Bad;
+        return None;
     }
     if Header::POSITIONS <= position {
-        return Read::Bad;
+        return None;
     }
-    Read::Value(label::code_of(maker, number, position), past)
+    Some((label::code_of(maker, number, position), past))
 }
 
 // `crit O M.N.P`.
-fn read_critical(s: &[u8], at: usize) -> Linked
+fn read_critical(s: &[u8], at: usize) -> Option<(u64, u64, usize)>
     requires { at + 48 ≤ length s.now }
     ensures { CriticalRead s.now at result }
 {
     if !text::text_at(s, at, b"crit ") {
-        return Linked::Bad;
+        return None;
     }
-    let Read::Value(other, past_other) = text::number_before(s, at + NUMBERS, b' ') else {
-        return Linked::Bad;
-    };
+    let (other, past_other) = text::number_before(s, at + NUMBERS, b' ')?;
     if Header::BLOCKS <= other {
-        return Linked::Bad;
+        return None;
     }
-    let Read::Value(code, past) = read_label(s, past_other) else {
-        return Linked::Bad;
-    };
+    let (code, past) = read_label(s, past_other)?;
     if !text::blank(s, past, at + COLUMNS - past) {
-        return Linked::Bad;
+        return None;
     }
-    Linked::Link(kind::critical_with(other), code, at + COLUMNS)
+    Some((kind::critical_with(other), code, at + COLUMNS))
 }
 
 // A third link, by its first letter: kind word, and the serial of a sewn dart or the label's code.
-pub fn read_third(s: &[u8], at: usize) -> Linked
+pub fn read_third(s: &[u8], at: usize) -> Option<(u64, u64, usize)>
     requires { at + 48 ≤ length s.now }
     ensures { ThirdRead s.now at result }
 {
@@ -84,16 +71,14 @@ pub fn read_third(s: &[u8], at: usize) -> Linked
         return read_critical(s, at);
     }
     if s[at] == b's' {
-        let Read::Value(serial, past) = read_sewn(s, at) else {
-            return Linked::Bad;
-        };
-        return Linked::Link(kind::SEWN, serial, past);
+        let (serial, past) = read_sewn(s, at)?;
+        return Some((kind::SEWN, serial, past));
     }
     if !text::text_at(s, at, b"free") {
-        return Linked::Bad;
+        return None;
     }
     if !text::blank(s, at + 4, COLUMNS - 4) {
-        return Linked::Bad;
+        return None;
     }
-    Linked::Link(kind::FREE, 0, at + COLUMNS)
+    Some((kind::FREE, 0, at + COLUMNS))
 }

@@ -125,14 +125,14 @@ module _ {viewers : ℕ} {m₀ : List ℕ} {o : Oracle} {scratch₀ outbox₀ mo
   whole = balanced viewers (length moves₀ / 3) m₀ o scratch₀ outbox₀
 
   -- a step that is taken while there is room
-  next_room : n < length moves / 3 → (k : ℕ) × (w.room ≡ suc k)
+  next_room : n < length moves₀ / 3 → (k : ℕ) × (w.room ≡ suc k)
   next_room h = go w.room w.rooms
     where
       go : (r : ℕ) → length moves₀ / 3 ≡ n + r → (k : ℕ) × (r ≡ suc k)
-      go zero e = let s = w.moves_size in absurd (omega (arith, e, h, s))
+      go zero e = absurd (omega (arith, e, h))
       go (suc k) e = (k, refl)
 
-  module _ (h : n < length moves / 3) {s : Ending} {m' scratch' outbox' : List ℕ} (l : Levelled viewers m o scratch outbox s m' scratch' outbox') where
+  module _ (h : n < length moves₀ / 3) {s : Ending} {m' scratch' outbox' : List ℕ} (l : Levelled viewers m o scratch outbox s m' scratch' outbox') where
     abbrev k : ℕ
     k = (next_room h).0
 
@@ -161,7 +161,7 @@ module _ {viewers : ℕ} {m₀ : List ℕ} {o : Oracle} {scratch₀ outbox₀ mo
           rooms = let e = w.rooms in let f = (next_room h).1 in omega (arith, e, f);
           same_end = stepped (ending.Moved d r v) known ∙ behind_more w.carried t (balanced viewers k m' o scratch₀ outbox');
           written = put ∙ ap (λ (x : List ℕ). with_move x n t) w.written
-              ∙ with_move_over (numbers_of w.carried) moves₀ n t (numbers_length w.carried ∙ ap (λ (x : ℕ). x * 3) c) (omega (arith, h, size))
+              ∙ with_move_over (numbers_of w.carried) moves₀ n t (numbers_length w.carried ∙ ap (λ (x : ℕ). x * 3) c) (omega (arith, h))
               ∙ ap (λ (x : List ℕ). over_words x moves₀) (sym (numbers_more w.carried t));
           as_was = scratch_now;
           mesh_size = l.ended.elsewhere.size ∙ w.mesh_size;
@@ -189,19 +189,21 @@ module _ {viewers : ℕ} {m₀ : List ℕ} {o : Oracle} {scratch₀ outbox₀ mo
       done = sym (ap (λ (r : BalancingRun). r.moves) e ∙ append-nil w.carried)
 
   -- by a step that moves nothing
-  pub last_step : n < length moves / 3 → {s : Ending} {m' scratch' outbox' : List ℕ} → Levelled viewers m o scratch outbox s m' scratch' outbox' → (x : Ending) → s ≡ x
+  pub last_step : n < length moves₀ / 3 → {s : Ending} {m' scratch' outbox' : List ℕ} → Levelled viewers m o scratch outbox s m' scratch' outbox' → (x : Ending) → s ≡ x
       → (b : Balanced) → ((a c : List ℕ) (r : BalancingRun) → after_step (ending_of x) a c r ≡ stopped (stop_of b) a c) → count_of b ≡ n
       → Balances viewers m₀ o scratch₀ outbox₀ moves₀ b m' scratch' outbox' moves
   last_step h {s} {m'} {scratch'} {outbox'} l x known b ends c =
       concludes b (stepped h l x known ∙ ap (behind w.carried) (ends m' outbox' (balanced viewers (next_room h).0 m' o scratch₀ outbox'))) c (scratch_now h l)
 
   -- with no room left
-  no_room : length moves / 3 ≤ n → w.room ≡ 0
-  no_room h = let e = w.rooms in let s = w.moves_size in omega (arith, e, s, h)
+  no_room : length moves₀ / 3 ≤ n → w.room ≡ 0
+  no_room h = let e = w.rooms in omega (arith, e, h)
 
-  pub last_asked : length moves / 3 ≤ n → (b : Balanced) {scratch' : List ℕ} → TurnAsked viewers m o scratch n b scratch' → Balances viewers m₀ o scratch₀ outbox₀ moves₀ b m scratch' outbox moves
+  pub last_asked : length moves₀ / 3 ≤ n → (b : Balanced) {scratch' : List ℕ} → TurnAsked viewers m o scratch (length moves₀ / 3) b scratch' → Balances viewers m₀ o scratch₀ outbox₀ moves₀ b m scratch' outbox moves
   unfolding balanced
-  last_asked h b a =
+  last_asked h b {scratch'} t =
+      let all : length moves₀ / 3 ≡ n = (let e = w.rooms in omega (arith, e, h)) in
+      let a = subst (λ (c : ℕ). TurnAsked viewers m o scratch c b scratch') all t in
       let e = a.stop_is ∙ ap (λ (c : List ℕ). stop_by (asked_next viewers m o c)) w.as_was in
       concludes b (w.same_end
       ∙ ap (λ (r : ℕ). behind w.carried (balanced viewers r m o scratch₀ outbox)) (no_room h)

@@ -70,13 +70,12 @@ pub fn balance(
 ) -> Balanced
     ensures { Balances viewers mesh.old (oracle_of o) scratch.old outbox.old moves.old result mesh.new scratch.new outbox.new moves.new }
 {
+    let room = moves.len() / 3;
     // The first n moves are carried out and written down.
-    let mut n = 0;
-    while n < moves.len() / 3 {
+    for n in 0..room {
         match crate::step(mesh, viewers, o, scratch, outbox) {
             Ending::Moved(donor, recipient, serial) => {
                 put_move(moves, n, donor, recipient, serial);
-                n += 1;
             }
             Ending::Level => {
                 return Balanced::Level(n);
@@ -92,5 +91,5 @@ pub fn balance(
             }
         }
     }
-    ask(mesh, viewers, o, scratch, n)
+    ask(mesh, viewers, o, scratch, room)
 }

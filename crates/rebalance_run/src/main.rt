@@ -8,18 +8,6 @@ use oracle::Oracle;
 use rebalance::Ending;
 use vectors::{cursor, meshes};
 
-fn byte_size(x: u8) -> usize {
-    x as usize
-}
-
-fn wide(x: u8) -> u64 {
-    x as u64
-}
-
-fn widen(x: u32) -> u64 {
-    x as u64
-}
-
 // How many volumes of a block are picked; none of memory that is no sound block's.
 fn picked(block: &[u64], o: Oracle) -> usize {
     if sound::is_sound(block) {
@@ -60,9 +48,9 @@ fn show_digests(mesh: &[u64], k: usize) {
 
 fn show_move(what: &[u8], donor: u32, recipient: u32, serial: u64) {
     io::write_all(1, what);
-    io::print_decimal(1, widen(donor));
+    io::print_decimal(1, u64::from(donor));
     io::write_all(1, b" ");
-    io::print_decimal(1, widen(recipient));
+    io::print_decimal(1, u64::from(recipient));
     io::write_all(1, b" ");
     io::print_decimal(1, serial);
     io::write_all(1, b"\n");
@@ -89,7 +77,7 @@ fn show_step(s: Ending) -> bool {
         }
         Ending::Refused(r) => {
             io::write_all(1, b"refused ");
-            io::print_decimal(1, widen(answers::refusal_number(r)));
+            io::print_decimal(1, u64::from(answers::refusal_number(r)));
             io::write_all(1, b"\n");
             false
         }
@@ -98,8 +86,7 @@ fn show_step(s: Ending) -> bool {
 
 // Step after step until nothing moves.
 fn balance(mesh: &mut [u64], viewers: u32, o: Oracle, scratch: &mut [u64], outbox: &mut [u8]) {
-    let most = rebalance::most_moves();
-    for i in 0..most {
+    for _ in 0..rebalance::most_moves() {
         if !show_step(rebalance::step(mesh, viewers, o, scratch, outbox)) {
             return;
         }
@@ -139,7 +126,7 @@ fn balance_first(
 // The oracle at a place: 0 every volume, 1 a box, else a plane.
 fn oracle_at(input: &[u8], at: usize) -> Oracle {
     let kind = cursor::byte(input, at);
-    let axis = wide(cursor::byte(input, cursor::step(input, at, 1)));
+    let axis = u64::from(cursor::byte(input, cursor::step(input, at, 1)));
     let low = vectors::point(input, cursor::step(input, at, 2));
     let high = vectors::point(input, cursor::step(input, at, 26));
     let value = low.x;
@@ -160,7 +147,7 @@ fn balance_mesh(
     scratch: &mut [u64],
     outbox: &mut [u8],
 ) -> usize {
-    let k = byte_size(cursor::byte(input, at));
+    let k = usize::from(cursor::byte(input, at));
     io::write_all(1, b"blocks ");
     io::print_decimal(1, k as u64);
     io::write_all(1, b"\n");
@@ -177,13 +164,11 @@ fn balance_mesh(
 // Mesh after mesh.
 fn balance_all(input: &[u8], mesh: &mut [u64], scratch: &mut [u64], outbox: &mut [u8]) {
     let mut at = 0;
-    let mut count: usize = 0;
-    while count < 1000 {
+    for _ in 0..1000 {
         if input.len() <= at {
             return;
         }
         at = balance_mesh(input, at, mesh, scratch, outbox);
-        count += 1;
     }
 }
 

@@ -1,4 +1,5 @@
 -- The call's answers: questions 17, 29 and 18 to 21 in their order. Assumes nothing.
+use Rattle.std.specs.Prelude.{Err, Ok}
 use mathlib.Core.Path.{◌≡◌, refl, sym, ◌∙◌, ap, subst}
 use mathlib.Core.Bool.{Bool, true, false}
 use mathlib.Core.List.{List, [], append-nil}
@@ -16,7 +17,7 @@ use Rattle.model.specs.Arrival.{addressed, serials_new, volume_right, receive_ch
 use Rattle.model.specs.Calls.{Answer, served, refused, storing, receive}
 use Rattle.laws.proofs.Tests.{yes_then, no_more}
 use Rattle.laws.proofs.Tables.{length_tab}
-use Rattle.answers.specs.Answers.{Gives, answered}
+use Rattle.answers.specs.Answers.{Gives, answered, OrRefused}
 use Rattle.answers.specs.declared.Refusal.{Refusal}
 use Rattle.answers.specs.declared.Refusal.TheVariants as refusal
 use Rattle.answers.proofs.Questions.{Asks, gives, alone, ask_no, ask_yes, ask_end, ask_first, said_no, said_yes}
@@ -38,8 +39,6 @@ use Rattle.arrival.proofs.Eighteen.{eighteen_is}
 use Rattle.fitting.specs.Fitting.{NewVolume, Parted}
 use Rattle.fitting.proofs.Outlined.{told_of}
 use Rattle.receive.specs.Taken.{AllYes, AskedSaid, AskedAll, Takes, receive_by, last_two}
-use Rattle.answers.specs.declared.Answer.{Answer as Answered}
-use Rattle.answers.specs.declared.Answer.TheVariants as answer
 
 module _ (lim : Limits) (m : List ℕ) {s v x b z : List ℕ} {f : Front} {l : Tail} where
   count_is : (t : Transfer) → TransferOutlined t s v x b z f l → length (block_in m).darts + size_all t.faces ≡ get_or m 2 0 + f.darts
@@ -50,12 +49,12 @@ module _ (lim : Limits) (m : List ℕ) {s v x b z : List ℕ} {f : Front} {l : T
     here_is : (t : Transfer) → TransferOutlined t s v x b z f l → here ≡ addressed t.from t.to (block_in m)
     here_is t w = seventeen ∙ ap (λ (a : ℕ). addressed a f.to (block_in m)) w.from_is ∙ ap (λ (a : ℕ). addressed t.from a (block_in m)) w.to_is
 
-    pub no_17 : {keys ranks q c kinds links : List ℕ} → here ≡ false → AskedAll lim m s v x b z f l keys ranks q c kinds links (answer.Refused refusal.NotForHere)
+    pub no_17 : {keys ranks q c kinds links : List ℕ} → here ≡ false → AskedAll lim m s v x b z f l keys ranks q c kinds links (Err refusal.NotForHere)
     unfolding receive_checks
     no_17 h = record { said = λ t e w. alone _ (ask_no refl (said_no (here_is t w) h) refl) }
 
     -- 29
-    pub no_29 : {keys ranks q c kinds links : List ℕ} → here ≡ true → lim.volume_darts < f.darts → AskedAll lim m s v x b z f l keys ranks q c kinds links (answer.Refused refusal.VolumeForViewer)
+    pub no_29 : {keys ranks q c kinds links : List ℕ} → here ≡ true → lim.volume_darts < f.darts → AskedAll lim m s v x b z f l keys ranks q c kinds links (Err refusal.VolumeForViewer)
     unfolding receive_checks
     no_29 yes-17 h = record {
       said = λ t e w. alone _ (ask_yes (said_yes (here_is t w) yes-17) (ask_no refl (lt-leb (size_all t.faces) lim.volume_darts (omega (arith, h, w.darts_are))) refl));
@@ -70,19 +69,19 @@ module _ (lim : Limits) (m : List ℕ) {s v x b z : List ℕ} {f : Front} {l : T
       new_is : (t : Transfer) → TransferOutlined t s v x b z f l → fresh ≡ serials_new (block_in m).darts t
       new_is t w = eighteen.is ∙ sym (eighteen_is (block_in m).darts (told_of w) fit)
 
-      pub no_18 : {q c kinds links : List ℕ} → fresh ≡ false → AskedAll lim m s v x b z f l keys ranks q c kinds links (answer.Refused refusal.SerialsNotNew)
+      pub no_18 : {q c kinds links : List ℕ} → fresh ≡ false → AskedAll lim m s v x b z f l keys ranks q c kinds links (Err refusal.SerialsNotNew)
       unfolding receive_checks
       no_18 h = record { said = λ t e w. alone _ (ask_yes (said_yes (here_is t w) yes-17) (ask_yes (small_is t w yes-29) (ask_no refl (said_no (new_is t w) h) refl))) }
 
       -- 19
       module _ (yes-18 : fresh ≡ true) {right : Bool} (nineteen : (t : Transfer) → TransferTold t v x b z s f.points f.vertices f.darts f.hollow → right ≡ volume_right t) where
-        pub no_19 : {q c kinds links : List ℕ} → right ≡ false → AskedAll lim m s v x b z f l keys ranks q c kinds links (answer.Refused refusal.VolumeWrong)
+        pub no_19 : {q c kinds links : List ℕ} → right ≡ false → AskedAll lim m s v x b z f l keys ranks q c kinds links (Err refusal.VolumeWrong)
         unfolding receive_checks
         no_19 h = record { said = λ t e w. alone _ (ask_yes (said_yes (here_is t w) yes-17) (ask_yes (small_is t w yes-29) (ask_yes (said_yes (new_is t w) yes-18) (ask_no refl (said_no (nineteen t (told_of w)) h) refl)))) }
 
         -- 20
         module _ (yes-19 : right ≡ true) {kinds links : List ℕ} {parted : Bool} (twenty : Parted m s v x b z f l kinds links parted) where
-          pub no_20 : {q c : List ℕ} → parted ≡ false → AskedAll lim m s v x b z f l keys ranks q c kinds links (answer.Refused refusal.PartsWrong)
+          pub no_20 : {q c : List ℕ} → parted ≡ false → AskedAll lim m s v x b z f l keys ranks q c kinds links (Err refusal.PartsWrong)
           unfolding receive_checks
           no_20 h = record {
             said = λ t e w. alone _ (ask_yes (said_yes (here_is t w) yes-17) (ask_yes (small_is t w yes-29) (ask_yes (said_yes (new_is t w) yes-18) (ask_yes (said_yes (nineteen t (told_of w)) yes-19)
@@ -91,7 +90,7 @@ module _ (lim : Limits) (m : List ℕ) {s v x b z : List ℕ} {f : Front} {l : T
 
           -- 21
           module _ (yes-20 : parted ≡ true) where
-            pub no_21 : {q c : List ℕ} → lim.block_darts < get_or m 2 0 + f.darts → AskedAll lim m s v x b z f l keys ranks q c kinds links (answer.Refused refusal.BlockFull)
+            pub no_21 : {q c : List ℕ} → lim.block_darts < get_or m 2 0 + f.darts → AskedAll lim m s v x b z f l keys ranks q c kinds links (Err refusal.BlockFull)
             unfolding receive_checks
             no_21 h = record {
               said = λ t e w. alone _ (ask_yes (said_yes (here_is t w) yes-17) (ask_yes (small_is t w yes-29) (ask_yes (said_yes (new_is t w) yes-18) (ask_yes (said_yes (nineteen t (told_of w)) yes-19)
@@ -99,7 +98,7 @@ module _ (lim : Limits) (m : List ℕ) {s v x b z : List ℕ} {f : Front} {l : T
             }
 
             pub yes_all : {q c : List ℕ} → get_or m 2 0 + f.darts ≤ lim.block_darts → Draft v x b z keys ranks q s f.points f.darts c
-                → AskedAll lim m s v x b z f l keys ranks q c kinds links answer.Served
+                → AskedAll lim m s v x b z f l keys ranks q c kinds links (Ok tt)
             unfolding receive_checks
             yes_all h d = record {
               said = (
@@ -121,7 +120,7 @@ module _ (lim : Limits) (m : List ℕ) {s v x b z : List ℕ} {f : Front} {l : T
             }
 
           -- 20 and 21 together
-          pub last_asked : {q c : List ℕ} → Draft v x b z keys ranks q s f.points f.darts c → {r : Answered} → r ≡ last_two parted (leb (get_or m 2 0 + f.darts) lim.block_darts)
+          pub last_asked : {q c : List ℕ} → Draft v x b z keys ranks q s f.points f.darts c → {r : OrRefused (Unit {0})} → r ≡ last_two parted (leb (get_or m 2 0 + f.darts) lim.block_darts)
               → AskedAll lim m s v x b z f l keys ranks q c kinds links r
           last_asked {q} {c} d {r} e = subst (AskedAll lim m s v x b z f l keys ranks q c kinds links) (sym e) (go parted (leb (get_or m 2 0 + f.darts) lim.block_darts) refl refl)
             where
@@ -211,11 +210,11 @@ unfolding receive_checks
 none_no lim m t a = yes_then 17 _ _ a.for_here ∙ yes_then 29 _ _ a.small ∙ yes_then 18 _ _ a.serials ∙ yes_then 19 _ _ a.volume ∙ yes_then 20 _ _ a.parts ∙ yes_then 21 _ _ a.fits ∙ no_more
 
 -- WHAT `questions` TELLS, where a caller has looked which it is
-module _ {lim : Limits} {m s v x b z : List ℕ} {f : Front} {l : Tail} {keys ranks q c kinds links : List ℕ} {r : Answered} (h : AskedAll lim m s v x b z f l keys ranks q c kinds links r) where
-  pub asked_no : {n : Refusal} → r ≡ answer.Refused n → AskedSaid lim m s v x b z f l keys ranks q c kinds links (answer.Refused n)
+module _ {lim : Limits} {m s v x b z : List ℕ} {f : Front} {l : Tail} {keys ranks q c kinds links : List ℕ} {r : OrRefused (Unit {0})} (h : AskedAll lim m s v x b z f l keys ranks q c kinds links r) where
+  pub asked_no : {n : Refusal} → r ≡ Err n → AskedSaid lim m s v x b z f l keys ranks q c kinds links (Err n)
   asked_no e = subst (AskedSaid lim m s v x b z f l keys ranks q c kinds links) e h.said
 
-  pub asked_yes : r ≡ answer.Served → AskedSaid lim m s v x b z f l keys ranks q c kinds links answer.Served
+  pub asked_yes : r ≡ (Ok tt) → AskedSaid lim m s v x b z f l keys ranks q c kinds links (Ok tt)
   asked_yes e = subst (AskedSaid lim m s v x b z f l keys ranks q c kinds links) e h.said
 
 -- the transfer that was read

@@ -1,4 +1,5 @@
 -- A transfer taken: the draft may join, and the memory that is left is the model's. Assumes nothing.
+use Rattle.std.specs.Prelude.{Ok}
 use mathlib.Core.Path.{◌≡◌, sym, ◌∙◌, ap, subst}
 use mathlib.Core.Bool.{Bool, true, false, true≢false, not, ◌&&◌}
 use mathlib.Core.List.{List}
@@ -31,12 +32,11 @@ use Rattle.join.specs.Interleaved.{Drafted}
 use Rattle.fitting.proofs.Outlined.{told_of}
 use Rattle.join.specs.Join.{MayJoin, Joins}
 use Rattle.receive.specs.Taken.{AskedSaid, receive_by}
-use Rattle.answers.specs.declared.Answer.TheVariants as answer
 use Rattle.receive.proofs.TakenImage.{indexed, interleaves, taken_image}
 use Rattle.receive.proofs.Answered.{transfer_served, none_no}
 
 module _ (lim : Limits) (bound : lim.block_darts ≤ room) {m s v x b z : List ℕ} {f : Front} {l : Tail} {keys ranks q c kinds links : List ℕ} (size : length m ≡ words_of lim)
-    (ok : holds_block m ≡ true) (fit : f.darts ≤ length x) (h : AskedSaid lim m s v x b z f l keys ranks q c kinds links answer.Served)
+    (ok : holds_block m ≡ true) (fit : f.darts ≤ length x) (h : AskedSaid lim m s v x b z f l keys ranks q c kinds links (Ok tt))
     (t : Transfer) (e : message_in s ≡ a_transfer t) (w : TransferOutlined t s v x b z f l) where
   d : Draft v x b z keys ranks q s f.points f.darts c
   d = h.1

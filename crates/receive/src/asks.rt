@@ -26,12 +26,12 @@ fn last_two(right: bool, fits: bool) -> Answer
     ensures { result ≡ last_two right fits }
 {
     if !right {
-        return Answer::Refused(Refusal::PartsWrong);
+        return Err(Refusal::PartsWrong);
     }
     if !fits {
-        return Answer::Refused(Refusal::BlockFull);
+        return Err(Refusal::BlockFull);
     }
-    Answer::Served
+    Ok(())
 }
 
 // All of them, in their order: the first no, or served. 29: a volume with more darts than a block's limits allow. 18 and 19 work in `old`,
@@ -67,10 +67,10 @@ pub fn questions(
     ensures { AskedAll (limits_of limits) block.now message.now vertex.old serial.old starts.now sizes.now front tail keys.new ranks.new opposite.new draft.new kinds.new links.new result }
 {
     if !for_here(block, front.from, front.to) {
-        return Answer::Refused(Refusal::NotForHere);
+        return Err(Refusal::NotForHere);
     }
     if limits.volume < front.darts {
-        return Answer::Refused(Refusal::VolumeForViewer);
+        return Err(Refusal::VolumeForViewer);
     }
     let n = block[Header::COUNT] as usize;
     let k = front.darts;
@@ -86,7 +86,7 @@ pub fn questions(
         ranks,
         codes,
     ) {
-        return Answer::Refused(Refusal::SerialsNotNew);
+        return Err(Refusal::SerialsNotNew);
     }
     if !arrival::volume::volume_right(
         message,
@@ -109,7 +109,7 @@ pub fn questions(
         numbers,
         marks,
     ) {
-        return Answer::Refused(Refusal::VolumeWrong);
+        return Err(Refusal::VolumeWrong);
     }
     let right = fitting::parts_right(
         block, message, front, tail, starts, sizes, ranks, draft, kinds, links, codes, indices,

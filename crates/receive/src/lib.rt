@@ -61,10 +61,10 @@ fn take(
         block, limits, message, front, tail, vertex, serial, starts, sizes, keys, ranks, opposite,
         draft, kinds, links, old, new, codes, indices, numbers, third, places, marks, seen,
     ) {
-        Answer::Refused(r) => Answer::Refused(r),
-        Answer::Served => {
+        Err(r) => Err(r),
+        Ok(()) => {
             join::join(block, draft, kinds, links, ranks, old, new);
-            Answer::Served
+            Ok(())
         }
     }
 }
@@ -106,18 +106,18 @@ pub fn receive_by(
     ensures { Gives (calls.receive (limits_of limits) block.old message.now) (answer_of result) block.new }
 {
     if block.len() != limits.words() {
-        return Answer::Refused(Refusal::MemorySize);
+        return Err(Refusal::MemorySize);
     }
     if !sound::is_sound_by(block, limits, met, codes, slots, draft) {
-        return Answer::Refused(Refusal::NotAnImage);
+        return Err(Refusal::NotAnImage);
     }
     match inbox::received::message_in(message, vertex, serial, starts, sizes) {
         Received::Transfer(f, t) => take(
             block, limits, message, f, t, vertex, serial, starts, sizes, keys, ranks, opposite,
             draft, kinds, links, old, new, codes, indices, numbers, third, places, marks, seen,
         ),
-        Received::Update(u) => Answer::Refused(Refusal::NotForHere),
-        Received::Nothing => Answer::Refused(Refusal::MessageLayout),
+        Received::Update(u) => Err(Refusal::NotForHere),
+        Received::Nothing => Err(Refusal::MessageLayout),
     }
 }
 

@@ -1,4 +1,5 @@
 -- The labels of an update read as codes, and the search for a code among codes that ascend. Assumes nothing.
+use Rattle.std.specs.Prelude.{None, Some}
 use mathlib.Core.Path.{◌≡◌, refl, sym, ◌∙◌, ap}
 use mathlib.Core.Bool.{true}
 use mathlib.Core.List.{List, [], ◌∷◌, ◌++◌, map}
@@ -19,7 +20,6 @@ use Rattle.model.specs.Messages.{label}
 use Rattle.laws.proofs.Labels.{code_in}
 use Rattle.theory.proofs.LayoutLaws.{same_value}
 use Rattle.groups.specs.Slices.{read_at, label_code}
-use Rattle.groups.specs.declared.Read.TheVariants.{Value, Bad}
 use Rattle.memory.proofs.Lookups.{Halving}
 use Rattle.codec.proofs.Taking.{SoFar, so_far_start, so_far_more, so_far_stop, so_far_end}
 use Rattle.codec.proofs.Passing.{no_label, took_label}
@@ -38,7 +38,7 @@ pub reading_start : {s : List ℕ} (at count : ℕ) (codes : List ℕ) → at �
 reading_start at count codes h e = record { size = e; i_le = omega arith; items = []; so_far = so_far_start label at h; read = refl; codes_are = refl }
 
 module _ {s : List ℕ} {at count : ℕ} {codes : List ℕ} {i p : ℕ} (w : Reading s at count codes i p) where
-  pub reading_more : {a q : ℕ} → i < count → Value a q ≡ read_at label_code s p → Reading s at count (set codes i a) (i + 1) q
+  pub reading_more : {a q : ℕ} → i < count → Some (a, q) ≡ read_at label_code s p → Reading s at count (set codes i a) (i + 1) q
   reading_more {a} {q} h e = record {
     size = simp length-set w.size;
     i_le = omega arith;
@@ -50,7 +50,7 @@ module _ {s : List ℕ} {at count : ℕ} {codes : List ℕ} {i p : ℕ} (w : Rea
   }
 
   -- where labels stand, none is missing
-  pub reading_bad : i < count → Bad ≡ read_at label_code s p → CodesRead s at count codes
+  pub reading_bad : i < count → None ≡ read_at label_code s p → CodesRead s at count codes
   unfolding times
   reading_bad h e = record {
     codes_are = λ ls past t. absurd (none-ne-some _ (sym (so_far_stop label count w.so_far (let n = w.read in omega arith) (no_label s p e)) ∙ t.value));

@@ -13,15 +13,13 @@ pub fn read_codes(s: &[u8], at: usize, count: usize, codes: &mut [u64])
     ensures { CodesRead s.now at count codes.new }
 {
     // The codes below i are read.
-    let mut i = 0;
     let mut p = at;
-    while i < count {
-        let Read::Value(code, next) = reader::read_label(s, p) else {
+    for i in 0..count {
+        let Some((code, next)) = reader::read_label(s, p) else {
             return;
         };
         codes[i] = code;
         p = next;
-        i += 1;
     }
 }
 

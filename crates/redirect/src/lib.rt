@@ -114,26 +114,26 @@ fn redirect_update(
 {
     let from = u.from;
     if !for_here(block, from, u.to) {
-        return Answer::Refused(Refusal::NotForHere);
+        return Err(Refusal::NotForHere);
     }
     if !neither(u.block, from, u.to) {
-        return Answer::Refused(Refusal::UpdateWrong);
+        return Err(Refusal::UpdateWrong);
     }
     // Each label names a face of its own, so there are no more labels than darts.
     let darts = block[Header::COUNT];
     if darts < u.count {
-        return Answer::Refused(Refusal::UpdateWrong);
+        return Err(Refusal::UpdateWrong);
     }
     let n = darts as usize;
     let count = u.count as usize;
     if !all_named(
         block, n, from, s, u.labels, count, table, codes, scratch, hits,
     ) {
-        return Answer::Refused(Refusal::UpdateWrong);
+        return Err(Refusal::UpdateWrong);
     }
     let word = kind::critical_with(u.block);
     named::rewrite(block, n, word, table, count);
-    Answer::Served
+    Ok(())
 }
 
 // Redirects the faces that an update names, by limits. 1: is the memory of a block's size? 2: is it a sound block's image? 16: is the
@@ -162,15 +162,15 @@ pub fn redirect_by(
     ensures { Gives (calls.redirect (limits_of limits) block.old message.now) (answer_of result) block.new }
 {
     if block.len() != limits.words() {
-        return Answer::Refused(Refusal::MemorySize);
+        return Err(Refusal::MemorySize);
     }
     if !sound::is_sound_by(block, limits, seen, codes, slots, scratch) {
-        return Answer::Refused(Refusal::NotAnImage);
+        return Err(Refusal::NotAnImage);
     }
     match received(message, vertex, serial, starts, sizes) {
-        Received::Transfer(f, t) => Answer::Refused(Refusal::NotForHere),
+        Received::Transfer(f, t) => Err(Refusal::NotForHere),
         Received::Update(u) => redirect_update(block, message, u, table, codes, scratch, hits),
-        Received::Nothing => Answer::Refused(Refusal::MessageLayout),
+        Received::Nothing => Err(Refusal::MessageLayout),
     }
 }
 

@@ -26,21 +26,17 @@ pub fn index_faces(
 {
     let word = kind::critical_with(from);
     // The places below p have their index, and so has each place whose face has a dart below p.
-    let mut p = 0;
-    while p < n {
+    for p in 0..n {
         if record::field(block, Place(p), Record::KIND) != word {
-            p += 1;
             continue;
         }
         if table[p] != 4097 {
-            p += 1;
             continue;
         }
         let code = least::face_code(block, n, Place(p));
         let k = codes::index_of(codes, c, code);
         least::assign_face(block, n, Place(p), k as u16, table);
         hits[k] = 1;
-        p += 1;
     }
 }
 
@@ -49,12 +45,10 @@ pub fn all_hit(hits: &[u8], c: usize) -> bool
     requires { c ≤ length hits.now }
     ensures { result ≡ all_hit hits.now c }
 {
-    // Those below k are, if ok.
+    // Those before `hit` are, if ok.
     let mut ok = true;
-    let mut k = 0;
-    while k < c {
-        ok = ok & (hits[k] == 1);
-        k += 1;
+    for hit in &hits[..c] {
+        ok = ok & (*hit == 1);
     }
     ok
 }
@@ -71,13 +65,10 @@ pub fn rewrite(block: &mut [u64], n: usize, word: u64, table: &[u16], c: usize)
     ensures { Rewritten block.old block.new (λ p. ltb (get_or table.now p 0) c) word n }
 {
     // The words at the places below p are set.
-    let mut p = 0;
-    while p < n {
+    for p in 0..n {
         if c <= wide(table[p]) {
-            p += 1;
             continue;
         }
         record::put_field(block, Place(p), Record::KIND, word);
-        p += 1;
     }
 }

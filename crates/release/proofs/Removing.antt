@@ -49,11 +49,6 @@ module _ {marks : List ℕ} {n : ℕ} {table : List ℕ} {kept p : ℕ} (w : Ran
   pub ranking_none : get_or marks p 0 ≡ 1 → {t : List ℕ} {k : ℕ} → t ≡ set table p kept → k ≡ kept → Ranking marks n t k (p + 1)
   ranking_none z e f = rw (e, f) (record { p_le = omega arith; len = simp length-set w.len; count = w.count ∙ sym (rank_none p marks z); below = table_more })
 
-pub ranking_end : {marks : List ℕ} {n : ℕ} {table : List ℕ} {kept p : ℕ} → Ranking marks n table kept p → n ≤ p → (kept ≡ rank marks n) × Tabled (rank marks) n table
-ranking_end {marks} {n} {table} {kept} {p} w h =
-    let e : p ≡ n = omega (arith, w.p_le) in
-    (w.count ∙ ap (rank marks) e, λ k l. w.below k (omega arith))
-
 -- ONE RECORD
 pub length_moved : (t : ℕ → ℕ) (m : List ℕ) (p : ℕ) → length (moved_words t m p) ≡ 8
 unfolding moved_words
@@ -157,9 +152,6 @@ module _ {g : ℕ → List ℕ} {m marks : List ℕ} {i : ℕ} {x : List ℕ} {w
     where
       enough : 16 + w * 8 ≤ length x
       enough = omega (arith, count_le, v.len)
-
-pub moved_end : {g : ℕ → List ℕ} {m marks : List ℕ} {i : ℕ} {x : List ℕ} {w n : ℕ} → DartsMoved g m marks i x w → i ≤ n → n ≤ i → DartsMoved g m marks n x w
-moved_end {i = i} {n = n} v h k = let e : n ≡ i = omega arith in rw e v
 
 -- the record that the code moves, by the table
 module _ {m marks x : List ℕ} {n i w : ℕ} (b : Bounded m n) (table : List ℕ) (tabled : Tabled (rank marks) n table) (v : DartsMoved (moved_words (rank marks) m) m marks i x w) (h : i < n) where

@@ -62,11 +62,9 @@ pub fn label_faces(
     let n = block[Header::COUNT] as usize;
     // The faces before f have labels; the next has `number`.
     let mut number = block[Header::COUNTER];
-    let mut f = 0;
-    while f < count {
+    for f in 0..count {
         let i = starts[f];
         let p = order[i];
-        f += 1;
         if !kind::is_sewn(record::field(block, Place(p), Record::KIND)) {
             continue;
         }

@@ -16,7 +16,7 @@ mod label; // label.rt: the labels of the faces left behind
 mod remove; // remove.rt: the records taken out, the others renumbered
 
 use answers::{Answer, Refusal};
-use departure::{Counts, Leaving};
+use departure::Counts;
 use memory::header::{Header, Limits};
 
 // The marked volume goes to block `to`. The table may hold anything.
@@ -64,10 +64,10 @@ fn release_asked(
     match departure::leaves(
         block, limits, to, serial, marks, order, starts, seen, numbers, firsts, colours,
     ) {
-        Leaving::Refused(r) => Answer::Refused(r),
-        Leaving::Volume(counts) => {
+        Err(r) => Err(r),
+        Ok(counts) => {
             let_go(block, to, marks, order, starts, counts, numbers);
-            Answer::Served
+            Ok(())
         }
     }
 }
@@ -99,10 +99,10 @@ pub fn release_by(
     ensures { Gives (calls.release (limits_of limits) block.old to serial) (answer_of result) block.new }
 {
     if block.len() != limits.words() {
-        return Answer::Refused(Refusal::MemorySize);
+        return Err(Refusal::MemorySize);
     }
     if !sound::is_sound_by(block, limits, met, keys, slots, scratch) {
-        return Answer::Refused(Refusal::NotAnImage);
+        return Err(Refusal::NotAnImage);
     }
     release_asked(
         block, limits, to, serial, marks, order, starts, seen, numbers, firsts, colours,

@@ -18,13 +18,11 @@ fn ranks(marks: &[u8], n: usize, table: &mut [usize]) -> usize
 {
     // Of the places below p, `kept` are not marked.
     let mut kept = 0;
-    let mut p = 0;
-    while p < n {
+    for p in 0..n {
         table[p] = kept;
         if marks[p] != 1 {
             kept += 1;
         }
-        p += 1;
     }
     kept
 }
@@ -45,13 +43,11 @@ fn compact(block: &mut [u64], n: usize, marks: &[u8], table: &[usize]) -> usize
 {
     // The records of the unmarked places below i stand in front, w of them.
     let mut w = 0;
-    let mut i = 0;
-    while i < n {
+    for i in 0..n {
         if marks[i] != 1 {
             move_record(block, Place(i), Place(w), table);
             w += 1;
         }
-        i += 1;
     }
     w
 }

@@ -1,4 +1,5 @@
 -- Messages in a row, one after the other. Assumes nothing.
+use Rattle.std.specs.Prelude.{None, Option as Optional, Some}
 use mathlib.Core.Path.{◌≡◌, refl, sym, ◌∙◌, ap}
 use mathlib.Core.List.{List, [], ◌∷◌}
 use mathlib.Core.Logic.{⊎_elim, ◌⊎◌, inl, inr}
@@ -14,10 +15,9 @@ use Rattle.laws.proofs.Lists.{rest_whole}
 use Rattle.groups.proofs.Ends.{group_ends}
 use Rattle.codec.specs.Taken.{Took}
 use Rattle.reader.specs.Heads.{Four, four, head_told, head_in}
-use Rattle.reader.specs.declared.HeadOrNot.{HeadOrNot}
-use Rattle.reader.specs.declared.HeadOrNot.TheVariants as head
 use Rattle.codec.proofs.Taking.{both_none}
 use Rattle.rounds.specs.Post.{first_in, rest_in}
+use Rattle.reader.specs.declared.Head.{Head}
 
 le_or_ge : (a b : ℕ) → (a ≤ b) ⊎ (b ≤ a)
 le_or_ge a b = ⊎_elim (λ (h : a < b). inl (omega (arith, h))) (λ (h : b ≤ a). inr h) (lt_or_ge a b)
@@ -112,9 +112,9 @@ pub first_some : (bs : List ℕ) → 0 < length bs → 0 < length (first_in bs)
 first_some bs h = let l = length-take (message_length bs (group.get bs)) bs in let p = some_bytes bs h in omega (arith, l, p, h)
 
 -- TO WHOM IT GOES
-abbrev to_of : HeadOrNot → ℕ
-to_of head.Not = 0
-to_of (head.Head h) = h.to
+abbrev to_of : Optional Head → ℕ
+to_of None = 0
+to_of (Some h) = h.to
 
 to_told : (n : ℕ) (a : Option (ℕ × List ℕ)) (r : Option (Four × List ℕ)) → (a ≡ none → r ≡ none) → to_of (head_told n a r) ≡ to_number r
 to_told n none none f = refl
@@ -122,7 +122,7 @@ to_told n none (some r) f = absurd (none-ne-some r (sym (f refl)))
 to_told n (some a) none f = refl
 to_told n (some a) (some r) f = refl
 
-pub goes_to : (s : List ℕ) {r : HeadOrNot} → r ≡ head_in s → to_of r ≡ addressee s
+pub goes_to : (s : List ℕ) {r : Optional Head} → r ≡ head_in s → to_of r ≡ addressee s
 unfolding head_in four addressee
 goes_to s e = ap to_of e ∙ to_told (length s) (group.get s) (four.get s) (λ n. both_none group (group ⊕ group ⊕ group) s n)
 

@@ -1,4 +1,5 @@
 -- A round by its parts: what send wrote, the first message received, the last steps. Assumes nothing.
+use Rattle.std.specs.Prelude.{Err, Ok}
 use mathlib.Core.Path.{◌≡◌, refl, sym, ◌∙◌, ap, subst}
 use mathlib.Core.Bool.{Bool, true, false, cond}
 use mathlib.Core.List.{List, [], ◌∷◌, ◌++◌, map}
@@ -16,11 +17,7 @@ use Rattle.model.specs.Runs as runs
 use Rattle.model.specs.DividedRun.{Round, Step, Done, done, called, stored, run_steps, receiving, releasing, redirect_step, messages_in, send_step, sent_messages, round, written, memory_at}
 use Rattle.laws.proofs.Lists.{rest_whole}
 use Rattle.theory.proofs.CallLaws.{with_fifteen, writing_serves, writing_refuses}
-use Rattle.answers.specs.Answers.{Gives, question, answer_of, written_of}
-use Rattle.answers.specs.declared.Answer as answers
-use Rattle.answers.specs.declared.Answer.TheVariants as answer
-use Rattle.answers.specs.declared.Written as answers-written
-use Rattle.answers.specs.declared.Written.TheVariants as written_as
+use Rattle.answers.specs.Answers.{Gives, OrRefused, question, answer_of, written_of}
 use Rattle.answers.specs.declared.Refusal.{Refusal}
 use Rattle.answers.specs.declared.Refusal.TheVariants as refusal
 use Rattle.send.proofs.SentLaws.{refused_size}
@@ -127,23 +124,23 @@ yes_finished e = rw e refl
 no_finished : {ok : Bool} → ok ≡ false → runs.unfinished ≡ cond ok runs.finished runs.unfinished
 no_finished e = rw e refl
 
-module _ (viewers : ℕ) (m : List ℕ) (from to serial : ℕ) (sent : List ℕ) (n : ℕ) (l : n ≡ length (first_in sent)) (a : answers.Answer)
+module _ (viewers : ℕ) (m : List ℕ) (from to serial : ℕ) (sent : List ℕ) (n : ℕ) (l : n ≡ length (first_in sent)) (a : OrRefused (Unit {0}))
     {m₁ : List ℕ} (w : Stepped viewers m (at_block to (receiving (take n sent))) (number_of (answer_of a)) m₁) where
   first_got : {k : ℕ} → number_of (answer_of a) ≡ k → Stepped viewers m (at_block to (receiving (first_in sent))) k m₁
   first_got {k} e = subst (λ (x : List ℕ). Stepped viewers m (at_block to (receiving x)) k m₁) (first_front sent n l) (subst (λ (k : ℕ). Stepped viewers m (at_block to (receiving (take n sent))) k m₁) e w)
 
-  pub deliver_refused : (q : Refusal) → a ≡ answer.Refused q → Delivered viewers m from to serial sent (outcome.Refused q) m₁
-  deliver_refused q e = refused_there viewers m from to serial sent q (first_got (ap (λ (x : answers.Answer). number_of (answer_of x)) e))
+  pub deliver_refused : (q : Refusal) → a ≡ Err q → Delivered viewers m from to serial sent (outcome.Refused q) m₁
+  deliver_refused q e = refused_there viewers m from to serial sent q (first_got (ap (λ (x : OrRefused (Unit {0})). number_of (answer_of x)) e))
 
-  module _ (e : a ≡ answer.Served) {ok : Bool} {m₂ : List ℕ} (r : Ran viewers m₁ (at_block from (releasing to serial) ∷ map redirect_step (messages_in (take (length sent - n) (drop n sent)))) ok m₂) where
+  module _ (e : a ≡ (Ok tt)) {ok : Bool} {m₂ : List ℕ} (r : Ran viewers m₁ (at_block from (releasing to serial) ∷ map redirect_step (messages_in (take (length sent - n) (drop n sent)))) ok m₂) where
     last_ran : Ran viewers m₁ (at_block from (releasing to serial) ∷ map redirect_step (messages_in (drop n sent))) ok m₂
     last_ran = subst (λ (x : List ℕ). Ran viewers m₁ (at_block from (releasing to serial) ∷ map redirect_step (messages_in x)) ok m₂) (rest_whole sent n) r
 
     pub deliver_finished : ok ≡ true → Delivered viewers m from to serial sent outcome.Finished m₂
-    deliver_finished y = taken_there viewers m from to serial sent n outcome.Finished l (yes_finished y) (first_got (ap (λ (x : answers.Answer). number_of (answer_of x)) e)) last_ran
+    deliver_finished y = taken_there viewers m from to serial sent n outcome.Finished l (yes_finished y) (first_got (ap (λ (x : OrRefused (Unit {0})). number_of (answer_of x)) e)) last_ran
 
     pub deliver_unfinished : ok ≡ false → Delivered viewers m from to serial sent outcome.Unfinished m₂
-    deliver_unfinished y = taken_there viewers m from to serial sent n outcome.Unfinished l (no_finished y) (first_got (ap (λ (x : answers.Answer). number_of (answer_of x)) e)) last_ran
+    deliver_unfinished y = taken_there viewers m from to serial sent n outcome.Unfinished l (no_finished y) (first_got (ap (λ (x : OrRefused (Unit {0})). number_of (answer_of x)) e)) last_ran
 
 -- what send wrote lies within the outbox
 fits_in : (qs : List Check) (out bytes : List ℕ) (n : ℕ) → served n ≡ (writing qs out bytes).answer → n ≤ length (writing qs out bytes).lent
@@ -160,8 +157,8 @@ fits_in qs out bytes n e = go (eqb (first_no (with_fifteen qs out bytes)) 0) ref
         let k : ◌≡◌ {A = ℕ} 0 (first_no (with_fifteen qs out bytes)) = ap number_of (e ∙ ap (λ (r : Result ℕ). r.answer) s) in
         absurd (eqb-false (first_no (with_fifteen qs out bytes)) 0 q (sym k))
 
-pub within_outbox : (lim : Limits) (x : List ℕ) (to serial : ℕ) (outbox : List ℕ) {n : ℕ} {w : answers-written.Written} {outbox' : List ℕ}
-    → Gives (send lim x to serial outbox) (written_of w) outbox' → w ≡ written_as.Served n → n ≤ length outbox'
+pub within_outbox : (lim : Limits) (x : List ℕ) (to serial : ℕ) (outbox : List ℕ) {n : ℕ} {w : OrRefused ℕ} {outbox' : List ℕ}
+    → Gives (send lim x to serial outbox) (written_of w) outbox' → w ≡ Ok n → n ≤ length outbox'
 unfolding send
 within_outbox lim x to serial outbox {n} {w} {outbox'} g e =
     subst (λ (k : List ℕ). n ≤ length k) (sym g.left)
@@ -234,12 +231,12 @@ module _ (viewers : ℕ) (m : List ℕ) (from to serial : ℕ) (outbox : List �
         outbox_is = w.left;
       }
 
-  pub refused_by_send : from < length m / 32776 → (q : Refusal) {w : answers-written.Written} {outbox' : List ℕ}
-      → Gives (send (limits_in viewers from) (own_memory viewers m from) to serial outbox) (written_of w) outbox' → w ≡ written_as.Refused q
+  pub refused_by_send : from < length m / 32776 → (q : Refusal) {w : OrRefused ℕ} {outbox' : List ℕ}
+      → Gives (send (limits_in viewers from) (own_memory viewers m from) to serial outbox) (written_of w) outbox' → w ≡ Err q
       → Played viewers m from to serial outbox (outcome.Refused q) m outbox'
-  refused_by_send h q {w} {outbox'} g e = refused_here h q (subst (λ (x : answers-written.Written). Gives (send (limits_in viewers from) (own_memory viewers m from) to serial outbox) (written_of x) outbox') e g)
+  refused_by_send h q {w} {outbox'} g e = refused_here h q (subst (λ (x : OrRefused ℕ). Gives (send (limits_in viewers from) (own_memory viewers m from) to serial outbox) (written_of x) outbox') e g)
 
-  pub was_played : from < length m / 32776 → (n : ℕ) (o : Outcome) {w : answers-written.Written} {outbox' m' : List ℕ}
-      → Gives (send (limits_in viewers from) (own_memory viewers m from) to serial outbox) (written_of w) outbox' → w ≡ written_as.Served n
+  pub was_played : from < length m / 32776 → (n : ℕ) (o : Outcome) {w : OrRefused ℕ} {outbox' m' : List ℕ}
+      → Gives (send (limits_in viewers from) (own_memory viewers m from) to serial outbox) (written_of w) outbox' → w ≡ Ok n
       → Delivered viewers m from to serial (take n outbox') o m' → Played viewers m from to serial outbox o m' outbox'
-  was_played h n o {w} {outbox'} g e d = was_sent h n o (subst (λ (x : answers-written.Written). Gives (send (limits_in viewers from) (own_memory viewers m from) to serial outbox) (written_of x) outbox') e g) d
+  was_played h n o {w} {outbox'} g e d = was_sent h n o (subst (λ (x : OrRefused ℕ). Gives (send (limits_in viewers from) (own_memory viewers m from) to serial outbox) (written_of x) outbox') e g) d

@@ -112,7 +112,7 @@ module _ {viewers : ℕ} {m requests outcomes outbox : List ℕ} {i : ℕ} {m' o
   abbrev before : PlayedRun
   before = played_run viewers (own_memories viewers m) outbox (take i (requests_in requests))
 
-  pub one_more : i < length requests / 3 → i < length outcomes' → (n : ℕ) {m'' outbox'' : List ℕ} → PlayedOne viewers m' (request_at requests i) outbox' n m'' outbox''
+  pub one_more : i < length requests / 3 → i < length outcomes → (n : ℕ) {m'' outbox'' : List ℕ} → PlayedOne viewers m' (request_at requests i) outbox' n m'' outbox''
       → Playing viewers m requests outcomes outbox (i + 1) m'' (set outcomes' i n) outbox''
   one_more h k n p =
       let r = request_at requests i in
@@ -146,7 +146,7 @@ module _ {viewers : ℕ} {m requests outcomes outbox : List ℕ} {i : ℕ} {m' o
   same_requests e = rw e at w.listed
 
   -- no room for another outcome
-  pub no_room : length outcomes' ≤ i → PlayedAll viewers m requests outcomes outbox m' outcomes' outbox'
+  pub no_room : length outcomes ≤ i → PlayedAll viewers m requests outcomes outbox m' outcomes' outbox'
   no_room h =
       let a = w.within in
       let b = w.room in

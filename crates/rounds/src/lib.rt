@@ -49,8 +49,8 @@ fn deliver(mesh: &mut [u64], viewers: u32, from: u64, to: u64, serial: u64, sent
 {
     let first = post::first_message(sent);
     match steps::receive_at(mesh, viewers, to, &sent[..first]) {
-        Answer::Refused(r) => Outcome::Refused(r),
-        Answer::Served => {
+        Err(r) => Outcome::Refused(r),
+        Ok(()) => {
             if steps::finish(mesh, viewers, from, to, serial, &sent[first..]) {
                 return Outcome::Finished;
             }
@@ -75,7 +75,7 @@ pub fn play(
         return Outcome::Refused(Refusal::MemorySize);
     }
     match send_part(mesh, viewers, from as usize, to, serial, outbox) {
-        Written::Refused(r) => Outcome::Refused(r),
-        Written::Served(n) => deliver(mesh, viewers, from, to, serial, &outbox[..n]),
+        Err(r) => Outcome::Refused(r),
+        Ok(n) => deliver(mesh, viewers, from, to, serial, &outbox[..n]),
     }
 }

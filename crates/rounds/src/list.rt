@@ -49,12 +49,10 @@ pub fn play_all(
     ensures { PlayedAll viewers mesh.old requests.now outcomes.old outbox.old mesh.new outcomes.new outbox.new }
 {
     // The requests before i are played, and their outcomes written.
-    let mut i = 0;
-    while i < outcomes.len() {
+    for i in 0..outcomes.len() {
         if requests.len() / 3 <= i {
             return;
         }
         outcomes[i] = play_at(mesh, viewers, requests, i, outbox);
-        i += 1;
     }
 }

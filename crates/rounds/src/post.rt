@@ -4,13 +4,12 @@ ghost use Rattle.model.specs.DividedRun.{addressee as to_block};
 ghost use Rattle.rounds.specs.Post.{first_in};
 
 use groups::Read;
-use reader::HeadOrNot;
 
 // The bytes of the first message: a number, and as many as it says; all, where there are fewer or it cannot be read.
 pub fn first_message(bytes: &[u8]) -> usize
     ensures { result ≡ length (first_in bytes.now) }
 {
-    let Read::Value(n, next) = reader::read_group(bytes, 0) else {
+    let Some((n, next)) = reader::read_group(bytes, 0) else {
         return bytes.len();
     };
     if n <= (bytes.len() - next) as u64 {
@@ -23,7 +22,7 @@ pub fn first_message(bytes: &[u8]) -> usize
 pub fn addressee(message: &[u8]) -> u64
     ensures { result ≡ to_block message.now }
 {
-    let HeadOrNot::Head(head) = reader::read_head(message) else {
+    let Some(head) = reader::read_head(message) else {
         return 0;
     };
     head.to

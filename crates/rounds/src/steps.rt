@@ -54,7 +54,7 @@ pub fn receive_at(mesh: &mut [u64], viewers: u32, b: u64, message: &[u8]) -> Ans
     ensures { Stepped viewers mesh.old (at_block b (receiving message.now)) (number_of (answer_of result)) mesh.new }
 {
     if (mesh.len() / Header::WORDS) as u64 <= b {
-        return Answer::Refused(Refusal::MemorySize);
+        return Err(Refusal::MemorySize);
     }
     receive_part(mesh, viewers, b as usize, message)
 }
@@ -64,7 +64,7 @@ pub fn release_at(mesh: &mut [u64], viewers: u32, b: u64, to: u64, serial: u64) 
     ensures { Stepped viewers mesh.old (at_block b (releasing to serial)) (number_of (answer_of result)) mesh.new }
 {
     if (mesh.len() / Header::WORDS) as u64 <= b {
-        return Answer::Refused(Refusal::MemorySize);
+        return Err(Refusal::MemorySize);
     }
     release_part(mesh, viewers, b as usize, to, serial)
 }
@@ -74,7 +74,7 @@ pub fn redirect_at(mesh: &mut [u64], viewers: u32, b: u64, message: &[u8]) -> An
     ensures { Stepped viewers mesh.old (at_block b (redirecting message.now)) (number_of (answer_of result)) mesh.new }
 {
     if (mesh.len() / Header::WORDS) as u64 <= b {
-        return Answer::Refused(Refusal::MemorySize);
+        return Err(Refusal::MemorySize);
     }
     redirect_part(mesh, viewers, b as usize, message)
 }

@@ -6,18 +6,6 @@ use memory::header::Header;
 use rounds::Outcome;
 use vectors::{cursor, meshes};
 
-fn byte_size(x: u8) -> usize {
-    x as usize
-}
-
-fn wide(x: u8) -> u64 {
-    x as u64
-}
-
-fn widen(x: u32) -> u64 {
-    x as u64
-}
-
 // The outcome, and a digest of each of k blocks.
 fn show(outcome: Outcome, mesh: &[u64], k: usize) {
     match outcome {
@@ -29,7 +17,7 @@ fn show(outcome: Outcome, mesh: &[u64], k: usize) {
         }
         Outcome::Refused(r) => {
             io::write_all(1, b"refused ");
-            io::print_decimal(1, widen(answers::refusal_number(r)));
+            io::print_decimal(1, u64::from(answers::refusal_number(r)));
         }
     }
     for b in 0..k {
@@ -50,9 +38,9 @@ fn play(
     outbox: &mut [u8],
 ) -> usize {
     let mut place = at;
-    for i in 0..n {
-        let from = wide(cursor::byte(input, place));
-        let to = wide(cursor::byte(input, cursor::step(input, place, 1)));
+    for _ in 0..n {
+        let from = u64::from(cursor::byte(input, place));
+        let to = u64::from(cursor::byte(input, cursor::step(input, place, 1)));
         let serial = cursor::number(input, cursor::step(input, place, 2), 8);
         show(
             rounds::play(mesh, viewers, from, to, serial, outbox),
@@ -66,7 +54,7 @@ fn play(
 
 // A mesh and its requests, which name its blocks alone; the place past them.
 fn play_mesh(input: &[u8], at: usize, mesh: &mut [u64], outbox: &mut [u8]) -> usize {
-    let k = byte_size(cursor::byte(input, at));
+    let k = usize::from(cursor::byte(input, at));
     io::write_all(1, b"blocks ");
     io::print_decimal(1, k as u64);
     io::write_all(1, b"\n");
@@ -76,7 +64,7 @@ fn play_mesh(input: &[u8], at: usize, mesh: &mut [u64], outbox: &mut [u8]) -> us
         io::write_all(1, b"a file is refused\n");
         return requests;
     }
-    let n = byte_size(cursor::byte(input, requests));
+    let n = usize::from(cursor::byte(input, requests));
     play(
         input,
         cursor::step(input, requests, 1),
@@ -91,13 +79,11 @@ fn play_mesh(input: &[u8], at: usize, mesh: &mut [u64], outbox: &mut [u8]) -> us
 // Mesh after mesh.
 fn play_all(input: &[u8], mesh: &mut [u64], outbox: &mut [u8]) {
     let mut at = 0;
-    let mut meshes: usize = 0;
-    while meshes < 1000 {
+    for _ in 0..1000 {
         if input.len() <= at {
             return;
         }
         at = play_mesh(input, at, mesh, outbox);
-        meshes += 1;
     }
 }
 

@@ -48,9 +48,6 @@ pub record Laying (g : ℕ → List ℕ) (n at : ℕ) (before out : List ℕ) (p
   pub i_le : i ≤ n
   pub stored : Stored before at (pieces g i) out past
 
-pub lay_none : (g : ℕ → List ℕ) (n at : ℕ) (l : List ℕ) → Laying g n at l l at 0
-lay_none g n at l = record { i_le = omega arith; stored = stored_none l at }
-
 module _ {g : ℕ → List ℕ} {n at : ℕ} {l out : List ℕ} {past i : ℕ} (w : Laying g n at l out past i) where
   -- the next one ends no later than all
   pub lay_within : i < n → past + length (g i) ≤ at + length (pieces g n)

@@ -51,16 +51,16 @@ pub fn save_file_by(
     ensures { Gives (save_file (limits_of limits) block.now out.old) (written_of result) out.new }
 {
     if block.len() != limits.words() {
-        return Written::Refused(Refusal::MemorySize);
+        return Err(Refusal::MemorySize);
     }
     if !sound::is_sound_by(block, limits, seen, keys, table, scratch) {
-        return Written::Refused(Refusal::NotAnImage);
+        return Err(Refusal::NotAnImage);
     }
     if !long_enough(block, out.len()) {
-        return Written::Refused(Refusal::OutputTooShort);
+        return Err(Refusal::OutputTooShort);
     }
     let n = put::put_file(block, out);
-    Written::Served(n)
+    Ok(n)
 }
 
 // Saves a block of the rack.

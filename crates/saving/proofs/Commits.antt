@@ -1,4 +1,6 @@
 -- The commit, word by word: how it is put and read. Assumes nothing.
+use Rattle.std.specs.Prelude.{None}
+use Rattle.groups.specs.Slices.{MaybeRead}
 use mathlib.Core.Path.{◌≡◌, refl, sym, ap, ◌∙◌}
 use mathlib.Core.Bool.{true, ◌&&◌}
 use mathlib.Core.List.{List, [], ◌∷◌, ◌++◌, append_assoc, append-nil}
@@ -15,8 +17,6 @@ use Rattle.model.specs.Layouts.{coordinate}
 use Rattle.laws.proofs.Lists.{drop_at_cons, drop_end}
 use Rattle.laws.proofs.Tests.{by_cases, and_left, and_right}
 use Rattle.theory.proofs.LayoutLaws.{coordinate_lawful}
-use Rattle.groups.specs.declared.Read.{Read}
-use Rattle.groups.specs.declared.Read.TheVariants.{Bad}
 use Rattle.groups.specs.Slices.{Stored, read_at}
 use Rattle.groups.proofs.Coordinates.{coordinate_length, coordinate_short}
 use Rattle.groups.proofs.Writing.{stored_then}
@@ -53,12 +53,12 @@ unfolding entry_bytes
 entry_put e s t = stored_then s t
 
 -- READ
-pub word_read : (s : List ℕ) (i : ℕ) (r : Read) → r ≡ read_at coordinate s (8 * i) → value_in r ≡ commit_word s i
+pub word_read : (s : List ℕ) (i : ℕ) (r : MaybeRead) → r ≡ read_at coordinate s (8 * i) → value_in r ≡ commit_word s i
 unfolding commit_word
 word_read s i r e = ap value_in e
 
 pub word_short : (s : List ℕ) (i : ℕ) → length s < 8 * i + 8 → 0 ≡ commit_word s i
-word_short s i h = word_read s i Bad (coordinate_short (8 * i) s h)
+word_short s i h = word_read s i None (coordinate_short (8 * i) s h)
 
 pub committed_none : (s : List ℕ) (k : ℕ) → k ≡ commit_word s 0 → k ≡ 0 → 0 ≡ committed s
 unfolding committed

@@ -1,4 +1,5 @@
 -- What is written under a name, and how it is put into a room. Assumes nothing.
+use Rattle.std.specs.Prelude.{Err, None, Ok, Option as Optional, Result, Some}
 use mathlib.Core.Path.{◌≡◌, refl, sym, ap, ◌∙◌}
 use mathlib.Core.Bool.{Bool, true, false, cond, ◌&&◌}
 use mathlib.Core.List.{List, [], ◌∷◌, ◌++◌}
@@ -15,20 +16,17 @@ use Rattle.model.specs.Image.{words, block_in, holds_block, memory_checks}
 use Rattle.model.specs.Messages.{file}
 use Rattle.model.specs.Calls.{served, refused, asked, writing, save_file}
 use Rattle.laws.proofs.Tests.{by_cases, yes_first}
-use Rattle.answers.specs.declared.Written.{Written}
-use Rattle.answers.specs.declared.Written.TheVariants as written
 use Rattle.answers.specs.Answers.{Gives, written_of}
 use Rattle.savefile.proofs.WholeFile.{file_most}
 use Rattle.mesh.specs.Parts.{part}
 use Rattle.commands.specs.declared.names.File.TheVariants as files
-use Rattle.saving.specs.declared.prepare.Made.{Made}
-use Rattle.saving.specs.declared.prepare.Made.TheVariants as made
 use Rattle.saving.specs.Prepare.{act_when, savable, file_of, contents, fitting, left_by, made_of, StepPut}
+use Rattle.answers.specs.declared.Refusal.{Refusal}
 
 -- SAVE FILE, and its third question
-abbrev pub made_by : Written → Made
-made_by (written.Served n) = made.Bytes n
-made_by (written.Refused r) = made.Cannot
+abbrev pub made_by : Result ℕ Refusal → Optional ℕ
+made_by (Ok n) = Some n
+made_by (Err r) = None
 
 third_question : (a b t : Bool) → eqb (first_no ((1, a) ∷ (2, b) ∷ (15, t) ∷ [])) 0 ≡ (eqb (first_no ((1, a) ∷ (2, b) ∷ [])) 0 && t)
 unfolding first_no
@@ -42,12 +40,12 @@ fits_if true bytes room = refl
 fits_if false bytes room = refl
 
 -- what was answered, by whether all questions were answered yes
-settled : (z : Bool) (q : ℕ) (bytes out after : List ℕ) (w : Written) → written_of w ≡ cond z (served (length bytes)) (refused q) → after ≡ cond z (bytes ++ drop (length bytes) out) out
+settled : (z : Bool) (q : ℕ) (bytes out after : List ℕ) (w : Result ℕ Refusal) → written_of w ≡ cond z (served (length bytes)) (refused q) → after ≡ cond z (bytes ++ drop (length bytes) out) out
     → (made_by w ≡ made_of (act_when z bytes)) × (after ≡ left_by (act_when z bytes) out)
-settled true q bytes out after (written.Served n) a l = let e : n ≡ length bytes = cc in (ap made.Bytes e, l)
-settled true q bytes out after (written.Refused r) a l = let z : ◌≡◌ {A = ℕ} 0 1 = cc in absurd (omega arith)
-settled false q bytes out after (written.Served n) a l = let z : ◌≡◌ {A = ℕ} 0 1 = cc in absurd (omega arith)
-settled false q bytes out after (written.Refused r) a l = (refl, l)
+settled true q bytes out after (Ok n) a l = let e : n ≡ length bytes = cc in (ap Some e, l)
+settled true q bytes out after (Err r) a l = let z : ◌≡◌ {A = ℕ} 0 1 = cc in absurd (omega arith)
+settled false q bytes out after (Ok n) a l = let z : ◌≡◌ {A = ℕ} 0 1 = cc in absurd (omega arith)
+settled false q bytes out after (Err r) a l = (refl, l)
 
 answer_if : {A : Type 0} (qs : List Check) (before : List ℕ) (value : A) (after : List ℕ) → (asked qs before value after).answer ≡ cond (eqb (first_no qs) 0) (served value) (refused (first_no qs))
 unfolding asked
@@ -57,7 +55,7 @@ lent_if : {A : Type 0} (qs : List Check) (before : List ℕ) (value : A) (after 
 unfolding asked
 lent_if qs before value after = by_cases (eqb (first_no qs) 0) (λ e. rw e) (λ e. rw e)
 
-pub saved : (m : List ℕ) (b : ℕ) {out after : List ℕ} (w : Written) → Gives (save_file rack (part m b) out) (written_of w) after → StepPut (contents m (files.NewBlock b)) out after (made_by w)
+pub saved : (m : List ℕ) (b : ℕ) {out after : List ℕ} (w : Result ℕ Refusal) → Gives (save_file rack (part m b) out) (written_of w) after → StepPut (contents m (files.NewBlock b)) out after (made_by w)
 unfolding contents savable file_of save_file writing memory_checks
 saved m b {out} {after} w g =
     let p : List ℕ = part m b in
@@ -89,31 +87,31 @@ file_short m b e =
 
 -- A ROOM AFTERWARDS
 -- bytes were put: they are all there, and stand first
-made_some : (s : Bool) (bytes before after : List ℕ) (n : ℕ) → made.Bytes n ≡ made_of (fitting before (act_when s bytes)) → after ≡ left_by (fitting before (act_when s bytes)) before
+made_some : (s : Bool) (bytes before after : List ℕ) (n : ℕ) → Some n ≡ made_of (fitting before (act_when s bytes)) → after ≡ left_by (fitting before (act_when s bytes)) before
     → (s ≡ true) × (n ≡ length bytes) × (n ≤ length before) × (after ≡ bytes ++ drop (length bytes) before)
 made_some false bytes before after n a l = let z : ◌≡◌ {A = ℕ} 0 1 = cc in absurd (omega arith)
 made_some true bytes before after n a l = go (leb (length bytes) (length before)) refl a l
   where
-    go : (t : Bool) → leb (length bytes) (length before) ≡ t → made.Bytes n ≡ made_of (act_when t bytes) → after ≡ left_by (act_when t bytes) before
+    go : (t : Bool) → leb (length bytes) (length before) ≡ t → Some n ≡ made_of (act_when t bytes) → after ≡ left_by (act_when t bytes) before
         → (◌≡◌ {A = Bool} true true) × (n ≡ length bytes) × (n ≤ length before) × (after ≡ bytes ++ drop (length bytes) before)
     go true e a l = let same : n ≡ length bytes = cc in (refl, same, omega (arith, leb-true (length bytes) (length before) e), l)
     go false e a l = let z : ◌≡◌ {A = ℕ} 0 1 = cc in absurd (omega arith)
 
 -- no bytes were put, though there was room
-made_none : (s : Bool) (bytes before : List ℕ) → made.Cannot ≡ made_of (fitting before (act_when s bytes)) → (s ≡ true → length bytes ≤ length before) → s ≡ false
+made_none : (s : Bool) (bytes before : List ℕ) → None ≡ made_of (fitting before (act_when s bytes)) → (s ≡ true → length bytes ≤ length before) → s ≡ false
 made_none false bytes before a h = refl
 made_none true bytes before a h = let z : ◌≡◌ {A = ℕ} 0 1 = rw (le-leb (length bytes) (length before) (h refl)) at (ap number a) in absurd (omega arith)
   where
-    number : Made → ℕ
-    number (made.Bytes n) = 1
-    number made.Cannot = 0
+    number : Optional ℕ → ℕ
+    number (Some n) = 1
+    number None = 0
 
 pub record Filed (m : List ℕ) (b n : ℕ) (after : List ℕ) : Type 0 where
   pub has_file : savable m b ≡ true
   pub room : n ≤ length after
   pub bytes : take n after ≡ file_of m b
 
-pub filed : {m : List ℕ} {b : ℕ} {before after : List ℕ} {n : ℕ} {r : Made} → made.Bytes n ≡ r → StepPut (contents m (files.NewBlock b)) before after r → Filed m b n after
+pub filed : {m : List ℕ} {b : ℕ} {before after : List ℕ} {n : ℕ} {r : Optional ℕ} → Some n ≡ r → StepPut (contents m (files.NewBlock b)) before after r → Filed m b n after
 unfolding contents
 filed {m} {b} {before} {after} {n} e p =
     let q = made_some (savable m b) (file_of m b) before after n (e ∙ p.answer) p.left in
@@ -124,15 +122,15 @@ filed {m} {b} {before} {after} {n} e p =
       bytes = rw (q.3, q.1) (take-append_seam (file_of m b) (drop (length (file_of m b)) before));
     }
 
-pub not_filed : (m : List ℕ) (b : ℕ) {before after : List ℕ} {r : Made} → made.Cannot ≡ r → StepPut (contents m (files.NewBlock b)) before after r → 245775 ≤ length before → savable m b ≡ false
+pub not_filed : (m : List ℕ) (b : ℕ) {before after : List ℕ} {r : Optional ℕ} → None ≡ r → StepPut (contents m (files.NewBlock b)) before after r → 245775 ≤ length before → savable m b ≡ false
 unfolding contents
 not_filed m b {before} e p h = made_none (savable m b) (file_of m b) before (e ∙ p.answer) (λ s. omega (arith, file_short m b s))
 
 -- nothing is put: there is nothing to write, or no room for it
-pub put_none : {x : Option (List ℕ)} {room : List ℕ} → fitting room x ≡ none → StepPut x room room made.Cannot
+pub put_none : {x : Option (List ℕ)} {room : List ℕ} → fitting room x ≡ none → StepPut x room room None
 put_none e = record { answer = rw e; left = rw e }
 
-pub no_file : (m room : List ℕ) (b : ℕ) → length m / 32776 ≤ b → StepPut (contents m (files.NewBlock b)) room room made.Cannot
+pub no_file : (m room : List ℕ) (b : ℕ) → length m / 32776 ≤ b → StepPut (contents m (files.NewBlock b)) room room None
 unfolding contents
 no_file m room b h = put_none (rw (no_block m b h))
 

@@ -1,4 +1,5 @@
 -- The commit of a mesh, put entry by entry. Assumes nothing.
+use Rattle.std.specs.Prelude.{None, Option, Some}
 use mathlib.Core.Path.{◌≡◌, refl, sym, ap, ◌∙◌}
 use mathlib.Core.Bool.{Bool, true, false, true≢false, cond}
 use mathlib.Core.List.{List, ◌++◌}
@@ -16,33 +17,31 @@ use Rattle.groups.proofs.Coordinates.{coordinate_length}
 use Rattle.groups.proofs.Writing.{stored_then, stored_length}
 use Rattle.savefile.proofs.Pieces.{pieces, in_pieces, Placing, place_none, place_fits, place_more, place_all}
 use Rattle.saving.specs.declared.commit.Entry.{Entry}
-use Rattle.saving.specs.declared.prepare.Known.{Known}
-use Rattle.saving.specs.declared.prepare.Known.TheVariants as known-variants
 use Rattle.saving.specs.Commit.{entry_of, entry_bytes, commit_of}
 use Rattle.saving.specs.Prepare.{savable, file_of, known, BlockEntered}
 use Rattle.saving.proofs.Commits.{entry_length, pieces_length}
 use Rattle.saving.proofs.Contents.{Filed}
 
 -- ONE BLOCK'S ENTRY
-known_some : (m : List ℕ) (b : ℕ) (e : Entry) → savable m b ≡ true → e ≡ entry_of (file_of m b) → known-variants.Is e ≡ known m b
+known_some : (m : List ℕ) (b : ℕ) (e : Entry) → savable m b ≡ true → e ≡ entry_of (file_of m b) → Some e ≡ known m b
 unfolding known
 known_some m b e s h = rw (s, h)
 
-pub known_none : (m : List ℕ) (b : ℕ) → savable m b ≡ false → known-variants.Not ≡ known m b
+pub known_none : (m : List ℕ) (b : ℕ) → savable m b ≡ false → None ≡ known m b
 unfolding known
 known_none m b s = rw s
 
 -- the entry of the first bytes of a room
-pub filed_entry : {m : List ℕ} {b n : ℕ} {room : List ℕ} {e : Entry} → Filed m b n room → e ≡ entry_of (take (n - 0) (drop 0 room)) → known-variants.Is e ≡ known m b
+pub filed_entry : {m : List ℕ} {b n : ℕ} {room : List ℕ} {e : Entry} → Filed m b n room → e ≡ entry_of (take (n - 0) (drop 0 room)) → Some e ≡ known m b
 filed_entry {m} {b} {n} {room} {e} f h =
     let z : n - 0 ≡ n = omega arith in
     known_some m b e f.has_file (h ∙ ap (λ (k : ℕ). entry_of (take k room)) z ∙ ap entry_of f.bytes)
 
-known_cases : (s : Bool) (e f : Entry) → known-variants.Is e ≡ cond s (known-variants.Is f) known-variants.Not → (s ≡ true) × (e ≡ f)
+known_cases : (s : Bool) (e f : Entry) → Some e ≡ cond s (Some f) None → (s ≡ true) × (e ≡ f)
 known_cases true e f h = (refl, cc)
 known_cases false e f h = let z : ◌≡◌ {A = ℕ} 0 1 = cc in absurd (omega arith)
 
-known_not : (s : Bool) (f : Entry) → known-variants.Not ≡ cond s (known-variants.Is f) known-variants.Not → s ≡ false
+known_not : (s : Bool) (f : Entry) → None ≡ cond s (Some f) None → s ≡ false
 known_not true f h = let z : ◌≡◌ {A = ℕ} 0 1 = cc in absurd (omega arith)
 known_not false f h = refl
 
@@ -83,7 +82,7 @@ module _ {m : List ℕ} {k : ℕ} {start out : List ℕ} {past b : ℕ} (w : Ent
   pub enter_fits : b < k → past + 16 ≤ length out
   enter_fits h = omega (arith, place_fits w.placing h, entry_length (entry_of (file_of m b)))
 
-  pub enter_more : b < k → {e : Entry} {r : Known} → known-variants.Is e ≡ r → r ≡ known m b → {after : List ℕ} {next : ℕ} → Stored out past (entry_bytes e) after next
+  pub enter_more : b < k → {e : Entry} {r : Option Entry} → Some e ≡ r → r ≡ known m b → {after : List ℕ} {next : ℕ} → Stored out past (entry_bytes e) after next
       → Entering m k start after next (b + 1)
   unfolding known
   enter_more h {e} i n {after} {next} s =
@@ -93,7 +92,7 @@ module _ {m : List ℕ} {k : ℕ} {start out : List ℕ} {past b : ℕ} (w : Ent
   pub enter_size : {before bytes : List ℕ} {at next : ℕ} → Stored before at bytes start next → length out ≡ length before
   enter_size s = stored_length w.placing.stored ∙ stored_length s
 
-  pub enter_stop : b < k → {r : Known} → known-variants.Not ≡ r → r ≡ known m b → {before bytes : List ℕ} {at next : ℕ} → Stored before at bytes start next → BlockEntered m k before out false
+  pub enter_stop : b < k → {r : Option Entry} → None ≡ r → r ≡ known m b → {before bytes : List ℕ} {at next : ℕ} → Stored before at bytes start next → BlockEntered m k before out false
   unfolding known
   enter_stop h i n s = record {
     all = below_false (savable m) k b h (known_not (savable m b) (entry_of (file_of m b)) (i ∙ n));

@@ -1,9 +1,8 @@
 -- The commit of a save: how many blocks, then the length and the digest of each one's file, in words of 8 bytes. Assumes nothing.
-use Rattle.std.specs.Prelude.{cond, ◌&&◌, List, [], ◌∷◌, ◌++◌, ℕ, ◌+◌, ◌*◌, ◌%◌, leb, ltb, eqb, length}
+use Rattle.groups.specs.Slices.{MaybeRead}
+use Rattle.std.specs.Prelude.{cond, ◌&&◌, List, [], ◌∷◌, ◌++◌, ℕ, ◌+◌, ◌*◌, ◌%◌, leb, ltb, eqb, length, None, Some}
 use Rattle.model.specs.Lists.{concat_map}
 use Rattle.model.specs.Layouts.{coordinate}
-use Rattle.groups.specs.declared.Read.{Read}
-use Rattle.groups.specs.declared.Read.TheVariants.{Value, Bad}
 use Rattle.groups.specs.Slices.{read_at}
 use Rattle.saving.specs.declared.commit.Entry.{Entry}
 
@@ -30,9 +29,9 @@ unfoldable pub commit_of : List Entry → List ℕ
 commit_of es = coordinate.put (length es) ++ concat_map entry_bytes es
 
 -- WHAT IS READ
-abbrev pub value_in : Read → ℕ
-value_in (Value v past) = v
-value_in Bad = 0
+abbrev pub value_in : MaybeRead → ℕ
+value_in (Some (v, past)) = v
+value_in None = 0
 
 -- word i; 0 past the end
 unfoldable pub commit_word : List ℕ → ℕ → ℕ

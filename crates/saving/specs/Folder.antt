@@ -4,7 +4,7 @@
 --   Cut             what a loss of power, or of the program alone, may leave of a plan
 --   seen            the files of a basin, as a reader has them
 --   SaveKeeps, RecoverKeeps, Reading    the claims; the proof is Kept (proofs)
-use Rattle.std.specs.Prelude.{◌≡◌, Bool, true, false, cond, ◌||◌, List, [], ◌∷◌, ◌++◌, ◌⊎◌, ℕ, zero, suc, ◌+◌, ◌^◌, ◌≤◌, ◌<◌, ltb, length, get_or}
+use Rattle.std.specs.Prelude.{◌≡◌, Bool, true, false, cond, ◌||◌, List, [], ◌∷◌, ◌++◌, ◌⊎◌, ℕ, zero, suc, ◌+◌, ◌^◌, ◌≤◌, ◌<◌, ltb, length, get_or, None, Option as Optional, Some}
 use Rattle.std.proofs.Math.Option.{Option, none, some}
 use Rattle.model.specs.Lists.{tab, is_some}
 use Rattle.commands.specs.declared.names.File.{File}
@@ -12,13 +12,12 @@ use Rattle.commands.specs.declared.names.File.TheVariants as file
 use Rattle.commands.specs.Names.{same_name}
 use Rattle.saving.specs.declared.plan.Step.{Step}
 use Rattle.saving.specs.declared.plan.Step.TheVariants as step
-use Rattle.saving.specs.declared.look.Found.{Found}
-use Rattle.saving.specs.declared.look.Found.TheVariants as found
 use Rattle.saving.specs.declared.look.Look.{Look}
 use Rattle.saving.specs.declared.look.Look.TheVariants as look
 use Rattle.saving.specs.Plan.{plan_steps, placing, ending, save_stages, recover_stages}
 use Rattle.saving.specs.Commit.{entry_of, commit_of, committed, entry_in}
 use Rattle.saving.specs.Looks.{same_entry, look_of}
+use Rattle.saving.specs.declared.commit.Entry.{Entry}
 
 -- A FOLDER: the bytes under each name, where a file has it
 abbrev pub Folder : Type 0
@@ -83,9 +82,9 @@ abbrev pub Alike : (ℕ → Option (List ℕ)) → (ℕ → Option (List ℕ)) �
 Alike u v = (b : ℕ) → b < 16 → u b ≡ v b
 
 -- WHAT A RECOVERY LOOKS AT: each block's files and its entry in the commit
-abbrev pub found_in : Option (List ℕ) → Found
-found_in none = found.Nothing
-found_in (some bytes) = found.File (entry_of bytes)
+abbrev pub found_in : Option (List ℕ) → Optional Entry
+found_in none = None
+found_in (some bytes) = Some (entry_of bytes)
 
 abbrev pub bytes_of : Option (List ℕ) → List ℕ
 bytes_of none = []

@@ -1,5 +1,5 @@
 -- What a step hands to the disk: the names, and the bytes of the file that is written. Assumes nothing.
-use Rattle.std.specs.Prelude.{◌≡◌, Bool, true, false, cond, ◌&&◌, List, ◌++◌, ℕ, ◌+◌, ◌*◌, leb, ltb, eqb, length, take, drop}
+use Rattle.std.specs.Prelude.{◌≡◌, Bool, true, false, cond, ◌&&◌, List, ◌++◌, ℕ, ◌+◌, ◌*◌, leb, ltb, eqb, length, take, drop, None, Option as Optional, Some}
 use Rattle.std.proofs.Math.Option.{Option, none, some}
 use Rattle.model.specs.Lists.{tab, first_no}
 use Rattle.model.specs.Values.{rack}
@@ -12,13 +12,10 @@ use Rattle.commands.specs.declared.names.File.TheVariants as files
 use Rattle.commands.specs.Names.{file_named, nameless}
 use Rattle.saving.specs.declared.plan.Step.{Step}
 use Rattle.saving.specs.declared.plan.Step.TheVariants as step
-use Rattle.saving.specs.declared.prepare.Made.{Made}
-use Rattle.saving.specs.declared.prepare.Made.TheVariants as made
 use Rattle.saving.specs.declared.prepare.Act.TheVariants as act
 use Rattle.saving.specs.declared.prepare.Deed.{Deed}
-use Rattle.saving.specs.declared.prepare.Known.{Known}
-use Rattle.saving.specs.declared.prepare.Known.TheVariants as known-variants
 use Rattle.saving.specs.Commit.{entry_of, commit_of}
+use Rattle.saving.specs.declared.commit.Entry.{Entry}
 
 abbrev pub act_when : {A : Type 0} → Bool → A → Option A
 act_when true a = some a
@@ -76,18 +73,18 @@ pub record Prepared (m : List ℕ) (s : Step) (before : List ℕ) (d : Deed) (af
   pub left : after ≡ left_by (handed m before s) before
 
 -- IN CODE
-abbrev pub made_of : Option (List ℕ) → Made
-made_of none = made.Cannot
-made_of (some bytes) = made.Bytes (length bytes)
+abbrev pub made_of : Option (List ℕ) → Optional ℕ
+made_of none = None
+made_of (some bytes) = Some (length bytes)
 
 -- bytes put into a room
-pub record StepPut (x : Option (List ℕ)) (before after : List ℕ) (r : Made) : Type 0 where
+pub record StepPut (x : Option (List ℕ)) (before after : List ℕ) (r : Optional ℕ) : Type 0 where
   pub answer : r ≡ made_of (fitting before x)
   pub left : after ≡ left_by (fitting before x) before
 
 -- the entry of a block's file, where it has one
-unfoldable pub known : List ℕ → ℕ → Known
-known m b = cond (savable m b) (known-variants.Is (entry_of (file_of m b))) known-variants.Not
+unfoldable pub known : List ℕ → ℕ → Optional Entry
+known m b = cond (savable m b) (Some (entry_of (file_of m b))) None
 
 -- the commit of k blocks at the start of an array; or that one of them has no file
 pub record BlockEntered (m : List ℕ) (k : ℕ) (before after : List ℕ) (r : Bool) : Type 0 where

@@ -27,10 +27,8 @@ fn digest(bytes: &[u8]) -> u64
 {
     // The digest of the bytes before i is h.
     let mut h: u64 = 0;
-    let mut i = 0;
-    while i < bytes.len() {
+    for i in 0..bytes.len() {
         h = (h * 257 + wide(bytes[i]) + 1) % 36028797018963913;
-        i += 1;
     }
     h
 }
@@ -62,8 +60,8 @@ fn word_in(commit: &[u8], i: usize) -> u64
         return 0;
     }
     match groups::read_coordinate(commit, 8 * i) {
-        Read::Value(v, _) => v,
-        Read::Bad => 0,
+        Some((v, _)) => v,
+        None => 0,
     }
 }
 

@@ -4,13 +4,6 @@ ghost use Rattle.saving.specs.Looks.{same_entry, file_found, look_found, look_of
 
 use crate::commit::Entry;
 
-// What stands under a name.
-#[derive(Clone, Copy)]
-pub enum Found {
-    Nothing,
-    File(Entry),
-}
-
 // The new file is the committed one, and is to be put in place; it is in place; neither.
 #[derive(Clone, Copy)]
 pub enum Look {
@@ -27,27 +20,27 @@ pub fn same(one: Entry, other: Entry) -> bool
 }
 
 // Whether a file was found.
-fn is_file(found: Found) -> bool
+fn is_file(found: Option<Entry>) -> bool
     ensures { result ≡ file_found found }
 {
     match found {
-        Found::File(_) => true,
-        Found::Nothing => false,
+        Some(_) => true,
+        None => false,
     }
 }
 
 // Whether a file was found, and is the one of an entry.
-fn is_of(found: Found, entry: Entry) -> bool
+fn is_of(found: Option<Entry>, entry: Entry) -> bool
     ensures { result ≡ look_found found entry }
 {
     match found {
-        Found::File(f) => same(f, entry),
-        Found::Nothing => false,
+        Some(f) => same(f, entry),
+        None => false,
     }
 }
 
 // Of a block whose commit is an entry: by what stands under its new name and under its name.
-pub fn look_at(entry: Entry, new: Found, named: Found) -> Look
+pub fn look_at(entry: Entry, new: Option<Entry>, named: Option<Entry>) -> Look
     ensures { result ≡ look_of entry new named }
 {
     if is_file(new) {

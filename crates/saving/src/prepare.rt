@@ -10,13 +10,6 @@ use commands::names;
 use commands::names::{File, Name};
 use memory::header::Header;
 
-// How many bytes were put, or that they cannot be.
-#[derive(Clone, Copy)]
-pub enum Made {
-    Bytes(usize),
-    Cannot,
-}
-
 // What is to be done: so many bytes written under the name; the name changed to the other; the name taken away; the folder's names kept.
 #[derive(Clone, Copy)]
 pub enum Act {
@@ -35,38 +28,26 @@ pub struct Deed {
     pub other: Name,
 }
 
-// The entry of a block's file, where it has one.
-#[derive(Clone, Copy)]
-enum Known {
-    Is(Entry),
-    Not,
-}
-
-// The file of block b of a mesh.
-fn put_file(mesh: &[u64], b: usize, out: &mut [u8]) -> Made
+// The file of block b of a mesh: how many bytes were put, where they can be.
+fn put_file(mesh: &[u64], b: usize, out: &mut [u8]) -> Option<usize>
     ensures { StepPut (contents mesh.now (File.NewBlock b)) out.old out.new result }
 {
     if mesh.len() / Header::WORDS <= b {
-        return Made::Cannot;
+        return None;
     }
-    match savefile::save_file(mesh::part_of(mesh, b), out) {
-        Written::Served(n) => Made::Bytes(n),
-        Written::Refused(_) => Made::Cannot,
-    }
+    savefile::save_file(mesh::part_of(mesh, b), out).ok()
 }
 
 // The entry of the file of block b, for which there is room.
-fn entry_in_room(mesh: &[u64], b: usize, room: &mut [u8]) -> Known
+fn entry_in_room(mesh: &[u64], b: usize, room: &mut [u8]) -> Option<Entry>
     requires { 245775 ≤ length room.old }
     ensures { result ≡ known mesh.now b }
 {
-    match put_file(mesh, b, room) {
-        Made::Bytes(n) => Known::Is(commit::entry_of(&room[0..n])),
-        Made::Cannot => Known::Not,
-    }
+    let n = put_file(mesh, b, room)?;
+    Some(commit::entry_of(&room[0..n]))
 }
 
-fn entry_of_block(mesh: &[u64], b: usize) -> Known
+fn entry_of_block(mesh: &[u64], b: usize) -> Option<Entry>
     ensures { result ≡ known mesh.now b }
 {
     let mut room = [0u8; 245775];
@@ -80,13 +61,11 @@ fn put_entries(mesh: &[u64], k: usize, out: &mut [u8]) -> bool
 {
     let mut past = groups::put_coordinate(out, 0, k as u64);
     // The entries of the blocks below b are put, up to past.
-    let mut b = 0;
-    while b < k {
-        let Known::Is(e) = entry_of_block(mesh, b) else {
+    for b in 0..k {
+        let Some(e) = entry_of_block(mesh, b) else {
             return false;
         };
         past = commit::put_entry(e, out, past);
-        b += 1;
     }
     true
 }
@@ -100,37 +79,37 @@ fn put_bytes(commit: &[u8], n: usize, room: &mut [u8])
 }
 
 // The commit of all blocks of a mesh.
-fn put_commit(mesh: &[u64], room: &mut [u8]) -> Made
+fn put_commit(mesh: &[u64], room: &mut [u8]) -> Option<usize>
     ensures { StepPut (contents mesh.now File.NewCommit) room.old room.new result }
 {
     let k = mesh.len() / Header::WORDS;
     if k < 1 {
-        return Made::Cannot;
+        return None;
     }
     if memory::header::BLOCKS < k {
-        return Made::Cannot;
+        return None;
     }
     let n = 8 + 16 * k;
     if room.len() < n {
-        return Made::Cannot;
+        return None;
     }
     let mut commit = [0u8; 264];
     if !put_entries(mesh, k, &mut commit) {
-        return Made::Cannot;
+        return None;
     }
     put_bytes(&commit, n, room);
-    Made::Bytes(n)
+    Some(n)
 }
 
 // What is written under a name: a new file or a new commit, and nothing else.
-fn put_contents(file: File, mesh: &[u64], room: &mut [u8]) -> Made
+fn put_contents(file: File, mesh: &[u64], room: &mut [u8]) -> Option<usize>
     ensures { StepPut (contents mesh.now file) room.old room.new result }
 {
     match file {
         File::NewBlock(b) => put_file(mesh, b, room),
         File::NewCommit => put_commit(mesh, room),
-        File::Block(_) => Made::Cannot,
-        File::Commit => Made::Cannot,
+        File::Block(_) => None,
+        File::Commit => None,
     }
 }
 
@@ -140,12 +119,12 @@ pub fn prepare(step: Step, mesh: &[u64], room: &mut [u8]) -> Deed
 {
     match step {
         Step::Write(f) => match put_contents(f, mesh, room) {
-            Made::Bytes(n) => Deed {
+            Some(n) => Deed {
                 act: Act::Write(n),
                 name: names::name_of(f),
                 other: names::no_name(),
             },
-            Made::Cannot => Deed {
+            None => Deed {
                 act: Act::Cannot,
                 name: names::no_name(),
                 other: names::no_name(),

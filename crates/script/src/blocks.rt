@@ -13,23 +13,18 @@ fn put(memory: &mut [u64], i: usize, w: u64) {
 pub fn put_words(memory: &mut [u64], at: usize, line: &[u8])
     requires { at < 16777216 }
 {
-    let mut k: usize = 0;
-    while k < 14 {
-        if line.len() <= line::start(line, k + 2) {
+    for k in 0..14 {
+        let rest = line::from(line, k + 2);
+        if rest.is_empty() {
             return;
         }
-        put(memory, at + k, line::number(line, k + 2));
-        k += 1;
+        put(memory, at + k, line::leading_number(rest));
     }
 }
 
 // Sets every word.
 pub fn put_all(memory: &mut [u64], w: u64) {
-    let mut i = 0;
-    while i < memory.len() {
-        put(memory, i, w);
-        i += 1;
-    }
+    memory.fill(w);
 }
 
 // The index of the record at a place.
@@ -104,7 +99,7 @@ fn next_point(i: usize, n: usize, x: u64, first: u64, step: u64) -> u64
     requires { (i < n) × (n < 1048576) }
 {
     if i + 1 < n {
-        return std::num::wrapping_add_u64(x, step);
+        return x.wrapping_add(step);
     }
     first
 }
@@ -114,12 +109,10 @@ pub fn pillow(memory: &mut [u64], place: usize, serial: usize, n: usize, first: 
     requires { (place < 1048576) × (serial < 1048576) × (n < 1048576) }
 {
     let mut x = first;
-    let mut i = 0;
-    while i < n {
+    for i in 0..n {
         let y = next_point(i, n, x, first, step);
         edge(memory, place, serial, n, i, x, y);
         x = y;
-        i += 1;
     }
 }
 
@@ -134,12 +127,10 @@ fn turned(p: usize) -> usize
 pub fn pairs(memory: &mut [u64], apart: u64, kind: u64, stride: u64, x: u64) {
     let mut serial: u64 = 1;
     let mut label: u64 = 0;
-    let mut p: usize = 0;
-    while p < 4096 {
+    for p in 0usize..4096 {
         let q = turned(p);
         dart(memory, p, serial, q, q, kind, label % 4096 * 4096, x);
-        serial = std::num::wrapping_add_u64(serial, apart);
-        label = std::num::wrapping_add_u64(label, stride);
-        p += 1;
+        serial = serial.wrapping_add(apart);
+        label = label.wrapping_add(stride);
     }
 }

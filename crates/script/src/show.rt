@@ -25,69 +25,38 @@ pub fn newline() {
 
 // What follows the command of a line, and a colon.
 pub fn rest(line: &[u8]) {
-    let at = line::start(line, 1);
-    if at <= line.len() {
-        text(&line[at..line.len()]);
-    }
+    text(line::from(line, 1));
     text(b": ");
 }
 
 fn word(memory: &[u64], i: usize) -> u64 {
-    if i < memory.len() {
-        return memory[i];
-    }
-    0
+    memory.get(i).copied().unwrap_or(0)
 }
 
 // n words from an index on, a stride apart.
 pub fn words(memory: &[u64], at: usize, n: usize, stride: usize) {
     let mut at = at;
-    let mut i = 0;
-    while i < n {
+    for i in 0..n {
         number(word(memory, at));
-        at = std::num::wrapping_add_usize(at, stride);
-        i += 1;
+        at = at.wrapping_add(stride);
     }
     newline();
-}
-
-// 1 for what is not zero.
-fn one_if(w: u64) -> u64 {
-    if w == 0 {
-        return 0;
-    }
-    1
 }
 
 // How many of the first words are not zero.
 pub fn used(memory: &[u64], words: usize) {
-    let mut n: u64 = 0;
-    let mut i = 0;
-    while i < words {
-        n = std::num::wrapping_add_u64(n, one_if(word(memory, i)));
-        i += 1;
-    }
-    number(n);
+    size(memory.iter().take(words).filter(|w| **w != 0).count());
     newline();
 }
 
 fn byte(bytes: &[u8], i: usize) -> u64 {
-    if i < bytes.len() {
-        return wide(bytes[i]);
-    }
-    0
-}
-
-fn wide(b: u8) -> u64 {
-    b as u64
+    u64::from(bytes.get(i).copied().unwrap_or(0))
 }
 
 // The first n bytes in hexadecimal.
 pub fn hex(bytes: &[u8], n: usize) {
-    let mut i = 0;
-    while i < n {
+    for i in 0..n {
         io::print_hex(1, byte(bytes, i), 2);
-        i += 1;
     }
     newline();
 }
@@ -95,10 +64,8 @@ pub fn hex(bytes: &[u8], n: usize) {
 // The sum of the bytes, each by its place, below 1,000,003.
 pub fn sum(bytes: &[u8]) {
     let mut n: u64 = 0;
-    let mut i = 0;
-    while i < bytes.len() {
-        n = std::num::wrapping_add_u64(n % 1000003 * 257, byte(bytes, i));
-        i += 1;
+    for b in bytes {
+        n = (n % 1000003 * 257).wrapping_add(u64::from(*b));
     }
     number(n % 1000003);
     newline();

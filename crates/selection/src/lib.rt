@@ -65,14 +65,12 @@ fn some(block: &[u64], o: Oracle, second: bool, order: &[usize], from: usize, to
     ensures { SomePicked (holds_at (oracle_of o) second block.now) order.now from to result }
 {
     // It holds at none before i.
-    let mut i = from;
-    while i < to {
+    for i in from..to {
         let p = place_at(order, i);
         let x = point::point_at(block, p);
         if oracle::holds(o, second, x) {
             return true;
         }
-        i += 1;
     }
     false
 }
@@ -123,12 +121,10 @@ fn measure_all(block: &[u64], o: Oracle, sizes: &mut [usize], order: &mut [usize
     let n = block[2] as usize;
     // The volumes of the places below p are marked, and the sizes there are told.
     let mut tail = 0;
-    let mut p = 0;
-    while p < n {
+    for p in 0..n {
         let m = measure(block, o, Place(p), order, tail, marks);
         tail = m.tail;
         sizes[p] = m.size;
-        p += 1;
     }
 }
 
@@ -147,16 +143,12 @@ pub fn count_of(sizes: &[usize], n: usize) -> usize
     requires { (n ≤ room) × (n ≤ length sizes.now) }
     ensures { result ≡ length (keep (λ p. ltb 0 (get_or sizes.now p 0)) (tab (λ p. p) n)) }
 {
-    // Of those below p, c are not 0.
+    // Of those before s, c are not 0.
     let mut c = 0;
-    let mut p = 0;
-    while p < n {
-        let s = sizes[p];
-        p += 1;
-        if s == 0 {
-            continue;
+    for s in &sizes[..n] {
+        if *s != 0 {
+            c += 1;
         }
-        c += 1;
     }
     c
 }

@@ -44,10 +44,10 @@ pub fn send_by(
     ensures { Gives (calls.send (limits_of limits) block.now to serial outbox.old) (written_of result) outbox.new }
 {
     if block.len() != limits.words() {
-        return Written::Refused(Refusal::MemorySize);
+        return Err(Refusal::MemorySize);
     }
     if !sound::is_sound_by(block, limits, met, keys, slots, scratch) {
-        return Written::Refused(Refusal::NotAnImage);
+        return Err(Refusal::NotAnImage);
     }
     let mut labels = [0usize; memory::header::BLOCKS];
     let mut bytes = [0usize; memory::header::BLOCKS];

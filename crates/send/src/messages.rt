@@ -68,10 +68,10 @@ pub fn put_messages(
     let sizes = transfer::transfer_sizes(block, to, marks, order, starts, numbers, firsts, counts);
     let more = updates::updates_size(block, to, order, starts, counts, labels, bytes);
     if outbox.len() < sizes.whole + more {
-        return Written::Refused(Refusal::OutputTooShort);
+        return Err(Refusal::OutputTooShort);
     }
     let n = put_both(
         block, to, marks, order, starts, numbers, firsts, counts, sizes, labels, bytes, outbox,
     );
-    Written::Served(n)
+    Ok(n)
 }

@@ -9,7 +9,6 @@ ghost use Rattle.cells.specs.Places.{Clear};
 
 use crate::messages;
 use answers::Written;
-use departure::Leaving;
 use memory::header::Limits;
 
 // The arrays are lent: seven of a block's places, two of the blocks.
@@ -39,8 +38,8 @@ pub fn send_volume(
     match departure::leaves(
         block, limits, to, serial, marks, order, starts, seen, numbers, firsts, colours,
     ) {
-        Leaving::Refused(q) => Written::Refused(q),
-        Leaving::Volume(counts) => messages::put_messages(
+        Err(q) => Err(q),
+        Ok(counts) => messages::put_messages(
             block, to, marks, order, starts, numbers, firsts, counts, labels, bytes, outbox,
         ),
     }

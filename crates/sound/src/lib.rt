@@ -38,10 +38,8 @@ fn zeros(block: &[u64], a: usize) -> bool
 {
     // The words from a on and below i are zero, if ok.
     let mut ok = true;
-    let mut i = a;
-    while i < block.len() {
+    for i in a..block.len() {
         ok = ok & (block[i] == 0);
-        i += 1;
     }
     ok
 }
@@ -55,8 +53,7 @@ fn darts_right(block: &[u64], n: usize, seen: &mut [u8]) -> bool
     let counter = block[Header::COUNTER];
     // The darts below i are right, and their nexts, marked in `seen`, differ.
     let mut last = 0;
-    let mut i = 0;
-    while i < n {
+    for i in 0..n {
         if !dart::place_at(block, n, Place(i), last) {
             return false;
         }
@@ -71,56 +68,46 @@ fn darts_right(block: &[u64], n: usize, seen: &mut [u8]) -> bool
         }
         seen[a] = 1;
         last = record::field(block, Place(i), Record::SERIAL);
-        i += 1;
     }
     true
 }
 
-// Whether each dart is right with the darts that it links to; then how many of them are critical.
-#[derive(Clone, Copy)]
-enum Far {
-    Right(usize),
-    Wrong,
-}
-
-// Looks at each dart and at those that it links to, and keeps the labels of the critical ones in order.
-fn far_right(block: &[u64], n: usize, keys: &mut [u64]) -> Far
+// Looks at each dart and at those that it links to, and keeps the labels of the critical ones in order; how many these are.
+fn far_right(block: &[u64], n: usize, keys: &mut [u64]) -> Option<usize>
     requires { (n ≤ room) × (words_for n ≤ length block.now) × Darts block.now n × (n ≤ length keys.old) }
     ensures { FarSaid block.now n keys.new result }
 {
     // The darts below i are right, and the first c keys are their labels.
     let mut c = 0;
-    let mut i = 0;
-    while i < n {
+    for i in 0..n {
         if !dart::far_at(block, n, Place(i)) {
-            return Far::Wrong;
+            return None;
         }
         c = questions::put_label(block, Place(i), keys, c);
-        i += 1;
     }
-    Far::Right(c)
+    Some(c)
 }
 
 // Asks 2 of all but whether labels differ: those of the critical darts are then the first keys.
-fn but_labels(block: &[u64], limits: Limits, seen: &mut [u8], keys: &mut [u64]) -> Far
+fn but_labels(block: &[u64], limits: Limits, seen: &mut [u8], keys: &mut [u64]) -> Option<usize>
     requires { (limits.block ≤ room) × (limits.block ≤ length seen.old) × ((p : ℕ) → get_or seen.old p 0 ≡ 0) × (limits.block ≤ length keys.old) }
     ensures { ButLabels (limits_of limits) block.now keys.new result }
 {
     if block.len() < Header::SIZE {
-        return Far::Wrong;
+        return None;
     }
     if !header_right(block, limits) {
-        return Far::Wrong;
+        return None;
     }
     let n = block[Header::COUNT] as usize;
     if block.len() < 8 + n * 8 {
-        return Far::Wrong;
+        return None;
     }
     if !zeros(block, 8 + n * 8) {
-        return Far::Wrong;
+        return None;
     }
     if !darts_right(block, n, seen) {
-        return Far::Wrong;
+        return None;
     }
     far_right(block, n, keys)
 }
@@ -138,7 +125,7 @@ pub fn is_sound_by(
     requires by_index { ((p : ℕ) → get_or seen.old p 0 ≡ 0) × (table.old ≡ replicate slot_count 0) }
     ensures { result ≡ is_image (limits_of limits) block.now }
 {
-    let Far::Right(critical) = but_labels(block, limits, seen, keys) else {
+    let Some(critical) = but_labels(block, limits, seen, keys) else {
         return false;
     };
     questions::apart(keys, critical, table, scratch)
@@ -150,7 +137,7 @@ pub fn is_sound(block: &[u64]) -> bool
 {
     let mut seen = [0u8; Header::DARTS];
     let mut keys = [0u64; Header::DARTS];
-    let Far::Right(critical) = but_labels(block, Limits::rack(), &mut seen, &mut keys) else {
+    let Some(critical) = but_labels(block, Limits::rack(), &mut seen, &mut keys) else {
         return false;
     };
     questions::apart_at_rack(&mut keys, critical)

@@ -34,10 +34,8 @@ fn gather(block: &[u64], n: usize, keys: &mut [u64]) -> usize
 {
     // The first c keys are the labels of the darts below i.
     let mut c = 0;
-    let mut i = 0;
-    while i < n {
+    for i in 0..n {
         c = put_label(block, Place(i), keys, c);
-        i += 1;
     }
     c
 }
@@ -105,12 +103,10 @@ pub fn coordinates_finite(block: &[u64]) -> bool
 {
     let n = block[Header::COUNT] as usize;
     // The points below i are finite.
-    let mut i = 0;
-    while i < n {
+    for i in 0..n {
         if !dart::finite_at(block, Place(i)) {
             return false;
         }
-        i += 1;
     }
     true
 }
@@ -121,8 +117,7 @@ fn links_pass(block: &[u64], n: usize, seen: &mut [u8]) -> bool
     ensures { (result ≡ true) ↔ Links block.now n }
 {
     // The links below i are right, and the nexts, marked in `seen`, differ.
-    let mut i = 0;
-    while i < n {
+    for i in 0..n {
         if !dart::link_at(block, n, Place(i)) {
             return false;
         }
@@ -131,7 +126,6 @@ fn links_pass(block: &[u64], n: usize, seen: &mut [u8]) -> bool
             return false;
         }
         seen[a] = 1;
-        i += 1;
     }
     true
 }
@@ -153,12 +147,10 @@ pub fn thirds_right(block: &[u64]) -> bool
 {
     let n = block[Header::COUNT] as usize;
     // The third links below i are right.
-    let mut i = 0;
-    while i < n {
+    for i in 0..n {
         if !dart::third_at(block, n, Place(i)) {
             return false;
         }
-        i += 1;
     }
     true
 }
@@ -171,14 +163,12 @@ fn own_labels(block: &[u64], n: usize) -> bool
     let me = block[Header::NUMBER];
     let counter = block[Header::COUNTER];
     // The labels below i are right.
-    let mut i = 0;
-    while i < n {
+    for i in 0..n {
         let k = record::field(block, Place(i), Record::KIND);
         let l = record::field(block, Place(i), Record::LINK);
         if !dart::label_right(me, counter, k, l) {
             return false;
         }
-        i += 1;
     }
     true
 }
@@ -208,12 +198,10 @@ pub fn points_agree(block: &[u64]) -> bool
 {
     let n = block[Header::COUNT] as usize;
     // The points below i agree.
-    let mut i = 0;
-    while i < n {
+    for i in 0..n {
         if !dart::points_at(block, n, Place(i)) {
             return false;
         }
-        i += 1;
     }
     true
 }

@@ -32,15 +32,11 @@ fn count_critical(
 {
     // Of the faces before f, `critical` are.
     let mut critical = 0;
-    let mut f = 0;
-    while f < count {
+    for f in 0..count {
         let i = starts[f];
-        let p = out[i];
-        f += 1;
-        if !is_critical(block, Place(p)) {
-            continue;
+        if is_critical(block, Place(out[i])) {
+            critical += 1;
         }
-        critical += 1;
     }
     critical
 }

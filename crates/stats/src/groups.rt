@@ -102,16 +102,13 @@ pub fn number(
     // The groups of the places below p have their numbers, `count` of them.
     let mut count = 0;
     let mut tail = 0;
-    let mut p = 0;
-    while p < n {
+    for p in 0..n {
         if groups[p] != 0 {
-            p += 1;
             continue;
         }
         firsts[count] = p;
         count += 1;
         tail = add_group(block, third, Place(p), count, order, tail, groups);
-        p += 1;
     }
     count
 }

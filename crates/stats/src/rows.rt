@@ -44,10 +44,8 @@ fn start_rows(block: &[u64], firsts: &[usize], end: usize, rows: &mut [u64])
     ensures { CountHeaded block.now firsts.now end rows.old rows.new }
 {
     // The words before i are started.
-    let mut i = 0;
-    while i < end {
+    for i in 0..end {
         rows[i] = first_word(block, firsts, i);
-        i += 1;
     }
 }
 
@@ -78,10 +76,8 @@ fn count_darts(block: &[u64], numbers: &[usize], rows: &mut [u64])
 {
     let n = block[Header::COUNT] as usize;
     // The darts before p are counted.
-    let mut p = 0;
-    while p < n {
+    for p in 0..n {
         add_one(rows, word_at(numbers, Place(p), 1));
-        p += 1;
     }
 }
 
@@ -109,11 +105,9 @@ fn count_faces(
         rows.old rows.new }
 {
     // The faces before f are counted.
-    let mut f = 0;
-    while f < faces {
+    for f in 0..faces {
         let p = start_at(out, starts, f);
         add_one(rows, word_at(numbers, p, 2));
-        f += 1;
     }
 }
 
@@ -140,10 +134,8 @@ fn count_critical(
         (keep (critical_at block.now) (face_starts block.now)) rows.old rows.new }
 {
     // The critical faces before f are counted.
-    let mut f = 0;
-    while f < faces {
+    for f in 0..faces {
         let p = start_at(out, starts, f);
-        f += 1;
         if !critical::is_critical(block, p) {
             continue;
         }

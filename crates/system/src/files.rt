@@ -1,97 +1,87 @@
 // Whole files by name.
 ghost use Rattle.std.specs.Prelude.{◌≤◌, length};
 
-use crate::{cause, say, text};
+use crate::cause::Cause;
+use crate::say;
+use crate::text::{Text, line_with};
 use std::fs;
 use std::fs::{File, OpenOptions};
 use std::io::{Error, Read, Seek, SeekFrom, Write};
 use std::os::fd::{AsRawFd, IntoRawFd};
 
-// What a file holds, or why that is not known.
-#[derive(Clone, Copy)]
-pub enum Contents {
-    Bytes(usize),
+// Why a file is not open: one in which there is no going back is a pipe.
+#[derive(Clone, Copy, PartialEq, Eq, Debug)]
+pub enum OpenError {
     Missing,
-    TooLarge,
-    Failed(i32),
+    Pipe,
+    Failed(Cause),
 }
 
-// The number of an error; never 0.
-fn number(e: Error) -> i32 {
-    match e.raw_os_error() {
-        Some(0) => cause::EIO,
-        Some(n) => n,
-        None => cause::EIO,
+impl From<Cause> for OpenError {
+    fn from(cause: Cause) -> OpenError {
+        match cause {
+            Cause::Missing => OpenError::Missing,
+            _ => OpenError::Failed(cause),
+        }
     }
 }
 
-// How opening a file went. One that is open is closed where it is let go.
-#[derive(Drop)]
-pub enum Opened {
-    At(File),
+// Why it is not known what a file holds.
+#[derive(Clone, Copy, PartialEq, Eq, Debug)]
+pub enum ReadError {
     Missing,
-    Pipe,
-    Failed(i32),
+    TooLarge,
+    Failed(Cause),
+}
+
+impl From<Error> for ReadError {
+    fn from(e: Error) -> ReadError {
+        ReadError::Failed(Cause::from(e))
+    }
+}
+
+impl From<OpenError> for ReadError {
+    fn from(e: OpenError) -> ReadError {
+        match e {
+            OpenError::Missing => ReadError::Missing,
+            OpenError::Pipe => ReadError::Failed(Cause::Pipe),
+            OpenError::Failed(cause) => ReadError::Failed(cause),
+        }
+    }
 }
 
 // A name as a text; one that is none names no file.
 fn path(name: &[u8]) -> &str {
-    match std::str::from_utf8(name) {
-        Ok(text) => text,
-        Err(_) => "",
-    }
+    std::str::from_utf8(name).unwrap_or("")
 }
 
-// Opens a file to read it; or why not. To open a pipe waits for somebody who writes to it, but not where it is opened to write
-// too: so the file is, where that is allowed. Nothing is written.
-fn open_any(rt: HostRuntime, name: &[u8]) -> Result<File, i32> {
+// Opens a file to read it. To open a pipe waits for somebody who writes to it, but not where it is opened to write too: so the file is,
+// where that is allowed. Nothing is written.
+fn open_any(rt: HostRuntime, name: &[u8]) -> Result<File, Cause> {
     match OpenOptions::new()
         .read(true)
         .write(true)
         .open(&rt, path(name))
     {
         Ok(file) => Ok(file),
-        Err(e) => {
-            if number(e) == cause::ENOENT {
-                return Err(cause::ENOENT);
-            }
-            open_to_read(rt, name)
-        }
+        Err(e) => match Cause::from(e) {
+            Cause::Missing => Err(Cause::Missing),
+            _ => open_to_read(rt, name),
+        },
     }
 }
 
-fn open_to_read(rt: HostRuntime, name: &[u8]) -> Result<File, i32> {
-    match File::open(&rt, path(name)) {
-        Ok(file) => Ok(file),
-        Err(e) => Err(number(e)),
-    }
+fn open_to_read(rt: HostRuntime, name: &[u8]) -> Result<File, Cause> {
+    Ok(File::open(&rt, path(name))?)
 }
 
-// Opens a file to read it. One in which there is no going back is a pipe.
-pub fn open(rt: HostRuntime, name: &[u8]) -> Opened {
-    match open_any(rt, name) {
-        Ok(file) => at_start(file),
-        Err(e) => {
-            if e == cause::ENOENT {
-                return Opened::Missing;
-            }
-            Opened::Failed(e)
-        }
-    }
-}
-
-// A file that is open, at its start, if there is going back to it.
-fn at_start(file: File) -> Opened {
-    let mut file = file;
+// Opens a file to read it from its start. It is closed where it is let go.
+pub fn open(rt: HostRuntime, name: &[u8]) -> Result<File, OpenError> {
+    let mut file = open_any(rt, name)?;
     match file.seek(SeekFrom::Start(0)) {
-        Ok(_) => Opened::At(file),
-        Err(_) => Opened::Pipe,
+        Ok(_) => Ok(file),
+        Err(_) => Err(OpenError::Pipe),
     }
-}
-
-// Closes a file.
-pub fn close(file: File) {
-    drop(file);
 }
 
 // Reads until the room is full, the input ends or a read fails; how many bytes there are at the start of the room.
@@ -102,281 +92,165 @@ fn read_full<R: Read>(from: &mut R, room: &mut [u8]) -> usize
     let mut n = 0;
     while n < room.len() {
         match from.read(&mut room[n..]) {
-            Ok(0) => {
+            Ok(0) | Err(_) => {
                 return n;
             }
             Ok(got) => {
                 n += got;
-            }
-            Err(_) => {
-                return n;
             }
         }
     }
     n
 }
 
-// Whether what was read is the whole: there was room for more, and the next read gives nothing.
-fn to_the_end<R: Read>(from: &mut R, n: usize, room: usize) -> Contents {
-    if n == room {
-        return Contents::TooLarge;
+// Reads the whole of an open file, which is shorter than the room: the next read gives nothing.
+pub fn read_open<'a, R: Read>(from: &mut R, room: &'a mut [u8]) -> Result<&'a [u8], ReadError> {
+    let n = read_full(from, room);
+    if n == room.len() {
+        return Err(ReadError::TooLarge);
     }
     let mut more = [0u8; 1];
-    match from.read(&mut more) {
-        Ok(0) => Contents::Bytes(n),
-        Ok(_) => Contents::Failed(cause::EIO),
-        Err(e) => Contents::Failed(number(e)),
+    if from.read(&mut more)? != 0 {
+        return Err(ReadError::Failed(Cause::DiskFailed));
     }
-}
-
-// Reads the whole of an open file, which is shorter than the room.
-pub fn read_open<R: Read>(from: &mut R, room: &mut [u8]) -> Contents {
-    let n = read_full(from, room);
-    to_the_end(from, n, room.len())
+    Ok(&room[..n])
 }
 
 // Reads the whole of the standard input, which is shorter than the room.
-pub fn read_input(rt: HostRuntime, room: &mut [u8]) -> Contents {
+pub fn read_input(rt: HostRuntime, room: &mut [u8]) -> Result<&[u8], ReadError> {
     let mut input = rt.stdin();
     read_open(&mut input, room)
 }
 
 // Reads a whole file, which is shorter than the room.
-pub fn read(rt: HostRuntime, name: &[u8], room: &mut [u8]) -> Contents {
-    match open(rt, name) {
-        Opened::At(file) => {
-            let mut file = file;
-            let contents = read_open(&mut file, room);
-            close(file);
-            contents
-        }
-        Opened::Missing => Contents::Missing,
-        Opened::Pipe => Contents::Failed(cause::ESPIPE),
-        Opened::Failed(e) => Contents::Failed(e),
-    }
-}
-
-// The same of a name that is the first n bytes of a text.
-pub fn read_named(rt: HostRuntime, text: &[u8], n: usize, room: &mut [u8]) -> Contents {
-    if n <= text.len() {
-        return read(rt, &text[0..n], room);
-    }
-    Contents::Missing
+pub fn read<'a>(rt: HostRuntime, name: &[u8], room: &'a mut [u8]) -> Result<&'a [u8], ReadError> {
+    let mut file = open(rt, name)?;
+    read_open(&mut file, room)
 }
 
 // Whether there is a file of this name.
 pub fn is_there(rt: HostRuntime, name: &[u8]) -> bool {
-    match open(rt, name) {
-        Opened::At(file) => {
-            close(file);
-            true
-        }
-        Opened::Missing => false,
-        Opened::Pipe => true,
-        Opened::Failed(_) => true,
-    }
+    !matches!(open(rt, name), Err(OpenError::Missing))
 }
 
-// A descriptor as a number without a sign.
-fn number_of(fd: i32) -> u64 {
-    if 0 < fd {
-        return fd as u64;
-    }
-    0
-}
-
-// What a file of /proc tells, at the start of the room; how many bytes, 0 where there is no such file.
-pub fn read_told(rt: HostRuntime, name: &[u8], room: &mut [u8]) -> usize
-    ensures { result ≤ length room.new }
+// What a file of /proc tells, in lent room; nothing where there is no such file.
+pub fn read_told<'a>(rt: HostRuntime, name: &[u8], room: &'a mut [u8]) -> &'a [u8]
+    ensures { length result.now ≤ length room.old }
 {
     match open_to_read(rt, name) {
         Ok(file) => {
             let mut file = file;
             let n = read_full(&mut file, room);
-            close(file);
-            n
+            &room[..n]
         }
-        Err(_) => 0,
+        Err(_) => b"",
     }
 }
 
-// What the system says of an open file, at the start of the room; how many bytes.
-fn read_info(rt: HostRuntime, fd: i32, room: &mut [u8]) -> usize
-    ensures { result ≤ length room.new }
+// What the system says of an open file, in lent room.
+fn read_info(rt: HostRuntime, fd: i32, room: &mut [u8]) -> &[u8]
+    ensures { length result.now ≤ length room.old }
 {
-    let mut path = [0u8; 48];
-    let mut digits = [0u8; 20];
-    let a = text::add(&mut path, 0, b"/proc/self/fdinfo/");
-    let d = io::decimal(number_of(fd), &mut digits);
-    let n = text::add(&mut path, a, &digits[..d]);
-    read_told(rt, &path[0..n], room)
+    let mut path = Text::<48>::new();
+    path.add(b"/proc/self/fdinfo/");
+    path.add_decimal(u64::try_from(fd).unwrap_or(0));
+    read_told(rt, path.as_slice(), room)
 }
 
 // Whether two descriptors are of one file, by the number that the system has for it; yes where the system does not tell.
 fn is_same(rt: HostRuntime, one: i32, other: i32) -> bool {
     let mut first = [0u8; 512];
     let mut second = [0u8; 512];
-    let n = read_info(rt, one, &mut first);
-    let m = read_info(rt, other, &mut second);
-    text::same_line(&first[0..n], &second[0..m], b"ino:")
+    let one = read_info(rt, one, &mut first);
+    let other = read_info(rt, other, &mut second);
+    line_with(one, b"ino:") == line_with(other, b"ino:")
 }
 
 // Whether a name leads to the file that is open.
 pub fn leads_to(rt: HostRuntime, name: &[u8], file: &File) -> bool {
     match open(rt, name) {
-        Opened::At(now) => {
-            let same = is_same(rt, file.as_raw_fd(), now.as_raw_fd());
-            close(now);
-            same
-        }
-        Opened::Missing => false,
-        Opened::Pipe => false,
-        Opened::Failed(_) => false,
-    }
-}
-
-// The bytes of a file that is open, on the disk; 0, or why not.
-fn put(file: &mut File, bytes: &[u8]) -> i32 {
-    if let Err(e) = file.write_all(bytes) {
-        return number(e);
-    }
-    keep(file)
-}
-
-// Writes a whole file; 0, or why not.
-pub fn write(rt: HostRuntime, name: &[u8], bytes: &[u8]) -> i32 {
-    match File::create(&rt, path(name)) {
-        Ok(file) => {
-            let mut file = file;
-            put(&mut file, bytes)
-        }
-        Err(e) => number(e),
-    }
-}
-
-// The bytes in one write, so that they stand together; 0, or why not.
-fn put_once(file: &mut File, bytes: &[u8]) -> i32 {
-    match file.write(bytes) {
-        Ok(n) => {
-            if n != bytes.len() {
-                return cause::ENOSPC;
-            }
-            0
-        }
-        Err(e) => number(e),
-    }
-}
-
-// Opens a file that is there to add to it; or why not.
-fn open_at_end(rt: HostRuntime, name: &[u8]) -> Result<File, i32> {
-    match OpenOptions::new().append(true).open(&rt, path(name)) {
-        Ok(file) => Ok(file),
-        Err(e) => Err(number(e)),
-    }
-}
-
-// Makes a file that is missing; 0, or why not.
-fn make(rt: HostRuntime, name: &[u8]) -> i32 {
-    match OpenOptions::new()
-        .write(true)
-        .create_new(true)
-        .open(&rt, path(name))
-    {
-        Ok(_) => 0,
-        Err(e) => number(e),
-    }
-}
-
-// Opens a file to add to it, and makes it where it is missing; or why not.
-fn open_to_add(rt: HostRuntime, name: &[u8]) -> Result<File, i32> {
-    match open_at_end(rt, name) {
-        Ok(file) => Ok(file),
-        Err(e) => {
-            if e != cause::ENOENT {
-                return Err(e);
-            }
-            let made = make(rt, name);
-            // Where it is there now, another process made it in between.
-            if (made != 0) & (made != cause::EEXIST) {
-                return Err(made);
-            }
-            open_at_end(rt, name)
-        }
-    }
-}
-
-// Adds bytes at the end of a file; 0, or why not.
-pub fn append(rt: HostRuntime, name: &[u8], bytes: &[u8]) -> i32 {
-    match open_to_add(rt, name) {
-        Ok(file) => {
-            let mut file = file;
-            put_once(&mut file, bytes)
-        }
-        Err(e) => e,
-    }
-}
-
-// Puts a file where another may stand; 0, or why not.
-pub fn rename(rt: HostRuntime, from: &[u8], to: &[u8]) -> i32 {
-    match fs::rename(&rt, path(from), path(to)) {
-        Ok(_) => 0,
-        Err(e) => number(e),
-    }
-}
-
-// Takes a file away; 0, or why not.
-pub fn remove(rt: HostRuntime, name: &[u8]) -> i32 {
-    match fs::remove_file(&rt, path(name)) {
-        Ok(_) => 0,
-        Err(e) => number(e),
-    }
-}
-
-// Has the disk keep a file or a folder that is open; 0, or why not.
-fn keep(file: &File) -> i32 {
-    match file.sync_all() {
-        Ok(_) => 0,
-        Err(e) => number(e),
-    }
-}
-
-// Has the disk keep the names of this folder; 0, or why not.
-pub fn keep_names(rt: HostRuntime) -> i32 {
-    match open_to_read(rt, b".") {
-        Ok(folder) => keep(&folder),
-        Err(e) => e,
-    }
-}
-
-// Whether this folder can be opened.
-fn folder_opens(rt: HostRuntime) -> bool {
-    match open_to_read(rt, b".") {
-        Ok(_) => true,
+        Ok(now) => is_same(rt, file.as_raw_fd(), now.as_raw_fd()),
         Err(_) => false,
     }
 }
 
-// Says that a file of this folder could not be read, or that the folder cannot be.
-pub fn say_unread(rt: HostRuntime, name: &[u8], error: i32) {
-    if folder_opens(rt) {
-        say::failed(b"cannot read", name, error);
-        return;
-    }
-    say::failed(b"cannot read", b"this folder", error);
+// Has the disk keep a file or a folder that is open.
+fn keep(file: &File) -> Result<(), Cause> {
+    Ok(file.sync_all()?)
 }
 
-// Which descriptor is the lowest free one; -1 where that is not known.
-fn lowest_free(rt: HostRuntime) -> i32 {
-    match open_to_read(rt, b"/dev/null") {
-        Ok(file) => file.as_raw_fd(),
-        Err(_) => -1,
+// Writes a whole file, and has the disk keep its bytes.
+pub fn write(rt: HostRuntime, name: &[u8], bytes: &[u8]) -> Result<(), Cause> {
+    let mut file = File::create(&rt, path(name))?;
+    file.write_all(bytes)?;
+    keep(&file)
+}
+
+// Opens a file that is there to add to it.
+fn open_at_end(rt: HostRuntime, name: &[u8]) -> Result<File, Cause> {
+    Ok(OpenOptions::new().append(true).open(&rt, path(name))?)
+}
+
+// Makes a file that is missing.
+fn make(rt: HostRuntime, name: &[u8]) -> Result<(), Cause> {
+    let _made = OpenOptions::new()
+        .write(true)
+        .create_new(true)
+        .open(&rt, path(name))?;
+    Ok(())
+}
+
+// Opens a file to add to it, and makes it where it is missing.
+fn open_to_add(rt: HostRuntime, name: &[u8]) -> Result<File, Cause> {
+    match open_at_end(rt, name) {
+        Err(Cause::Missing) => match make(rt, name) {
+            // Where it is there now, another process made it in between.
+            Ok(()) | Err(Cause::Exists) => open_at_end(rt, name),
+            Err(e) => Err(e),
+        },
+        opened => opened,
     }
+}
+
+// Adds bytes at the end of a file, in one write, so that they stand together.
+pub fn append(rt: HostRuntime, name: &[u8], bytes: &[u8]) -> Result<(), Cause> {
+    let mut file = open_to_add(rt, name)?;
+    if file.write(bytes)? != bytes.len() {
+        return Err(Cause::Full);
+    }
+    Ok(())
+}
+
+// Puts a file where another may stand.
+pub fn rename(rt: HostRuntime, from: &[u8], to: &[u8]) -> Result<(), Cause> {
+    Ok(fs::rename(&rt, path(from), path(to))?)
+}
+
+// Takes a file away.
+pub fn remove(rt: HostRuntime, name: &[u8]) -> Result<(), Cause> {
+    Ok(fs::remove_file(&rt, path(name))?)
+}
+
+// Has the disk keep the names of this folder.
+pub fn keep_names(rt: HostRuntime) -> Result<(), Cause> {
+    keep(&open_to_read(rt, b".")?)
+}
+
+// Says that a file of this folder could not be read, or that the folder cannot be.
+pub fn say_unread(rt: HostRuntime, name: &[u8], cause: Cause) {
+    let what: &[u8] = match open_to_read(rt, b".") {
+        Ok(_) => name,
+        Err(_) => b"this folder",
+    };
+    say::failed(b"cannot read", what, cause);
 }
 
 // Opens a file in the place of the lowest free descriptor, if that is 0, 1 or 2: nothing can be read from it, and what is written to it
 // is gone. Whether it did.
 fn fill_lowest(rt: HostRuntime) -> bool {
-    let lowest = lowest_free(rt);
+    let Ok(lowest) = open_to_read(rt, b"/dev/null").map(|file| file.as_raw_fd()) else {
+        return false;
+    };
     if (lowest < 0) | (2 < lowest) {
         return false;
     }
@@ -392,9 +266,9 @@ fn fill_lowest(rt: HostRuntime) -> bool {
 
 // Fills descriptors 0 to 2 where they are closed: else a block's file would get such a number, and what is printed would go there.
 pub fn fill_standard(rt: HostRuntime) {
-    if fill_lowest(rt) {
-        if fill_lowest(rt) {
-            fill_lowest(rt);
+    for _ in 0..3 {
+        if !fill_lowest(rt) {
+            return;
         }
     }
 }

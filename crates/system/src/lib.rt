@@ -2,8 +2,8 @@
 #![tactic(auto)]
 
 pub mod say; // say.rt: what is printed
-pub mod text; // text.rt: texts in lent bytes
+pub mod text; // text.rt: texts in bytes
 pub mod process; // process.rt: processes of this machine
 pub mod files; // files.rt: whole files by name
-pub mod cause; // cause.rt: numbers of errors
+pub mod cause; // cause.rt: why the system refuses a call
 pub mod lock; // lock.rt: one writer at a time

@@ -3,12 +3,11 @@
 --   Ended        a number and the byte that ends it
 --   Column       a number right-aligned in ten columns
 -- Each `..Read` says of an answer that it is the one there is, or that there is none.
-use Rattle.std.specs.Prelude.{◌≡◌, Bool, true, false, ◌&&◌, List, [], ◌∷◌, ◌++◌, ◌≢◌, ℕ, ◌+◌, ◌^◌, ◌≤◌, ◌<◌, ltb, eqb, length, get_or, take, drop}
+use Rattle.groups.specs.Slices.{MaybeRead}
+use Rattle.std.specs.Prelude.{◌≡◌, Bool, true, false, ◌&&◌, List, [], ◌∷◌, ◌++◌, ◌≢◌, ℕ, ◌+◌, ◌^◌, ◌≤◌, ◌<◌, ltb, eqb, length, get_or, take, drop, None, Some}
 use Rattle.laws.specs.Standing.{Stands}
 use Rattle.model.specs.Text.{is_digit, decimal}
 use Rattle.model.specs.Pages.{number_from, number_column}
-use Rattle.groups.specs.declared.Read.{Read}
-use Rattle.groups.specs.declared.Read.TheVariants as read
 
 -- k blanks, among n bytes, and then none
 pub record PastBlanks (s : List ℕ) (from n k : ℕ) : Type 0 where
@@ -49,21 +48,21 @@ pub record Column (s : List ℕ) (at v past : ℕ) : Type 0 where
   pub past_is : past ≡ at + 10
 
 -- ANSWERS
-abbrev pub DigitsRead : List ℕ → ℕ → ℕ → Read → Type 0
-DigitsRead s from n (read.Value v past) = Run s from n v past
-DigitsRead s from n read.Bad = (v past : ℕ) → Number s from n v past → ⊥
+abbrev pub DigitsRead : List ℕ → ℕ → ℕ → MaybeRead → Type 0
+DigitsRead s from n (Some (v, past)) = Run s from n v past
+DigitsRead s from n None = (v past : ℕ) → Number s from n v past → ⊥
 
-abbrev pub NumberRead : List ℕ → ℕ → ℕ → Read → Type 0
-NumberRead s from n (read.Value v past) = Number s from n v past
-NumberRead s from n read.Bad = (v past : ℕ) → Number s from n v past → ⊥
+abbrev pub NumberRead : List ℕ → ℕ → ℕ → MaybeRead → Type 0
+NumberRead s from n (Some (v, past)) = Number s from n v past
+NumberRead s from n None = (v past : ℕ) → Number s from n v past → ⊥
 
-abbrev pub EndedRead : List ℕ → ℕ → ℕ → Read → Type 0
-EndedRead s from end (read.Value v past) = Ended s from end v past
-EndedRead s from end read.Bad = (v past : ℕ) → Ended s from end v past → ⊥
+abbrev pub EndedRead : List ℕ → ℕ → ℕ → MaybeRead → Type 0
+EndedRead s from end (Some (v, past)) = Ended s from end v past
+EndedRead s from end None = (v past : ℕ) → Ended s from end v past → ⊥
 
-abbrev pub ColumnRead : List ℕ → ℕ → Read → Type 0
-ColumnRead s at (read.Value v past) = Column s at v past
-ColumnRead s at read.Bad = (v past : ℕ) → Column s at v past → ⊥
+abbrev pub ColumnRead : List ℕ → ℕ → MaybeRead → Type 0
+ColumnRead s at (Some (v, past)) = Column s at v past
+ColumnRead s at None = (v past : ℕ) → Column s at v past → ⊥
 
 -- a zero before other digits
 abbrev pub zero_first : List ℕ → ℕ → ℕ → Bool

@@ -26,10 +26,8 @@ pub fn blank(s: &[u8], at: usize, n: usize) -> bool
 {
     // Whether the first i are blanks.
     let mut all = true;
-    let mut i = 0;
-    while i < n {
+    for i in 0..n {
         all = all & (s[at + i] == BLANK);
-        i += 1;
     }
     all
 }
@@ -40,12 +38,10 @@ pub fn text_at(s: &[u8], at: usize, text: &[u8]) -> bool
     ensures { (result ≡ true) ↔ Stands s.now at text.now }
 {
     // The first i bytes of the text stand there.
-    let mut i = 0;
-    while i < text.len() {
+    for i in 0..text.len() {
         if s[at + i] != text[i] {
             return false;
         }
-        i += 1;
     }
     true
 }
@@ -56,14 +52,12 @@ fn blanks_from(s: &[u8], from: usize, n: usize) -> usize
     ensures { PastBlanks s.now from n result }
 {
     // The first i are blanks.
-    let mut i = 0;
-    while i < n {
+    for i in 0..n {
         if s[from + i] != BLANK {
             return i;
         }
-        i += 1;
     }
-    i
+    n
 }
 
 // Whether a byte is a digit, and the digit that it is.
@@ -87,20 +81,18 @@ fn digits(s: &[u8], from: usize, n: usize) -> Read
 {
     // The first i bytes are digits, and v is their value.
     let mut v: u64 = 0;
-    let mut i = 0;
-    while i < n {
+    for i in 0..n {
         let c = s[from + i];
         if !is_digit(c) {
-            return Read::Value(v, from + i);
+            return Some((v, from + i));
         }
         let w = 10 * v + digit(c);
         if NUMBERS <= w {
-            return Read::Bad;
+            return None;
         }
         v = w;
-        i += 1;
     }
-    Read::Value(v, from + i)
+    Some((v, from + n))
 }
 
 // Whether the digits from a place on, up to another, begin with a zero and are more than one.
@@ -116,16 +108,14 @@ pub fn number_at(s: &[u8], from: usize, n: usize) -> Read
     requires { from + n ≤ length s.now }
     ensures { NumberRead s.now from n result }
 {
-    let Read::Value(v, past) = digits(s, from, n) else {
-        return Read::Bad;
-    };
+    let (v, past) = digits(s, from, n)?;
     if past == from {
-        return Read::Bad;
+        return None;
     }
     if zero_in_front(s, from, past) {
-        return Read::Bad;
+        return None;
     }
-    Read::Value(v, past)
+    Some((v, past))
 }
 
 // A number and the byte that ends it, which is no digit: its value, and the place past the byte.
@@ -133,13 +123,11 @@ pub fn number_before(s: &[u8], from: usize, end: u8) -> Read
     requires { (from + 11 ≤ length s.now) × (digit-test end ≡ false) }
     ensures { EndedRead s.now from end result }
 {
-    let Read::Value(v, past) = number_at(s, from, COLUMNS) else {
-        return Read::Bad;
-    };
+    let (v, past) = number_at(s, from, COLUMNS)?;
     if s[past] != end {
-        return Read::Bad;
+        return None;
     }
-    Read::Value(v, past + 1)
+    Some((v, past + 1))
 }
 
 // A number right-aligned in ten columns: its value, and the place past them.
@@ -148,11 +136,9 @@ pub fn read_column(s: &[u8], at: usize) -> Read
     ensures { ColumnRead s.now at result }
 {
     let k = blanks_from(s, at, COLUMNS - 1);
-    let Read::Value(v, past) = number_at(s, at + k, COLUMNS - k) else {
-        return Read::Bad;
-    };
+    let (v, past) = number_at(s, at + k, COLUMNS - k)?;
     if past != at + COLUMNS {
-        return Read::Bad;
+        return None;
     }
-    Read::Value(v, past)
+    Some((v, past))
 }

@@ -1,13 +1,10 @@
 // Numbers of a record, least significant byte first. What lies past a record's end reads as zero, and the place past it is nowhere.
 
 // Past the end of every record.
-pub const NOWHERE: usize = 18446744073709551615;
+pub const NOWHERE: usize = usize::MAX;
 
 pub fn byte(s: &[u8], at: usize) -> u8 {
-    if at < s.len() {
-        return s[at];
-    }
-    0
+    s.get(at).copied().unwrap_or(0)
 }
 
 // The place n bytes on.
@@ -20,14 +17,10 @@ pub fn step(s: &[u8], at: usize, n: usize) -> usize {
     NOWHERE
 }
 
-fn wide(x: u8) -> u64 {
-    x as u64
-}
-
 // Byte i of a number of n bytes.
 fn digit(s: &[u8], at: usize, n: usize, i: usize) -> u64 {
     if i < n {
-        return wide(byte(s, step(s, at, i)));
+        return u64::from(byte(s, step(s, at, i)));
     }
     0
 }
@@ -63,18 +56,14 @@ pub fn bytes_end(s: &[u8], at: usize) -> usize {
     step(s, step(s, at, 4), short(s, at))
 }
 
-pub fn size(x: u8) -> usize {
-    x as usize
-}
-
 // A word: the count of its low bytes that are written, then these.
 pub fn word(s: &[u8], at: usize) -> u64 {
-    number(s, step(s, at, 1), size(byte(s, at)))
+    number(s, step(s, at, 1), usize::from(byte(s, at)))
 }
 
 // The place past a word.
 pub fn word_end(s: &[u8], at: usize) -> usize {
-    let n = size(byte(s, at));
+    let n = usize::from(byte(s, at));
     if 8 < n {
         return NOWHERE;
     }

@@ -2,27 +2,17 @@
 use crate::cursor;
 use crate::cursor::NOWHERE;
 
-fn put(block: &mut [u64], p: usize, w: u64) {
-    if p < block.len() {
-        block[p] = w;
-    }
-}
-
 // Writes the words of one run; gives the place past them.
 fn run(s: &[u8], at: usize, start: usize, count: usize, block: &mut [u64]) -> usize {
-    let n = block.len();
     let mut a = at;
-    let mut p = start;
-    let mut left = count;
-    // The next word stands at a and belongs to p; left words are to come.
-    while left > 0 {
-        if n <= p {
+    let mut to = block.iter_mut().skip(start);
+    // The next word stands at a.
+    for _ in 0..count {
+        let Some(word) = to.next() else {
             return NOWHERE;
-        }
-        put(block, p, cursor::word(s, a));
+        };
+        *word = cursor::word(s, a);
         a = cursor::word_end(s, a);
-        p += 1;
-        left -= 1;
     }
     a
 }
@@ -43,14 +33,12 @@ fn one_run(s: &[u8], at: usize, block: &mut [u64]) -> usize {
 // Writes runs over memory; gives the place past them.
 pub fn runs(s: &[u8], at: usize, block: &mut [u64]) -> usize {
     let mut a = cursor::step(s, at, 4);
-    let mut left = cursor::short(s, at);
-    // The next run stands at a; left runs are to come.
-    while left > 0 {
+    // The next run stands at a.
+    for _ in 0..cursor::short(s, at) {
         if a == NOWHERE {
             return a;
         }
         a = one_run(s, a, block);
-        left -= 1;
     }
     a
 }
@@ -59,39 +47,6 @@ pub fn runs(s: &[u8], at: usize, block: &mut [u64]) -> usize {
 pub fn words(s: &[u8], at: usize, block: &mut [u64]) -> usize {
     memory::header::clear(block);
     runs(s, cursor::step(s, at, 4), block)
-}
-
-fn get(block: &[u64], p: usize) -> u64 {
-    if p < block.len() {
-        return block[p];
-    }
-    0
-}
-
-// Whether two memories are equal.
-pub fn same(one: &[u64], other: &[u64]) -> bool {
-    if one.len() != other.len() {
-        return false;
-    }
-    // The words below p are equal.
-    let mut p = 0;
-    while p < one.len() {
-        if get(one, p) != get(other, p) {
-            return false;
-        }
-        p += 1;
-    }
-    true
-}
-
-// Sets every byte.
-pub fn fill(out: &mut [u8], b: u8) {
-    // The bytes below i are set.
-    let mut i = 0;
-    while i < out.len() {
-        out[i] = b;
-        i += 1;
-    }
 }
 
 // Byte i of a room: of the n bytes written, or the fill.
@@ -107,13 +62,10 @@ pub fn front_is(s: &[u8], at: usize, n: usize, fill: u8, out: &[u8]) -> bool {
     if out.len() < n {
         return false;
     }
-    // The bytes below i are as told.
-    let mut i = 0;
-    while i < out.len() {
-        if cursor::byte(out, i) != told(s, at, n, fill, i) {
+    for (i, byte) in out.iter().enumerate() {
+        if *byte != told(s, at, n, fill, i) {
             return false;
         }
-        i += 1;
     }
     true
 }

@@ -5,6 +5,7 @@ pub mod cursor; // cursor.rt: numbers and words of a record
 pub mod lent; // lent.rt: lent memory and bytes, filled and compared
 pub mod meshes; // meshes.rt: meshes stored as files, and digests of their blocks
 mod packed; // packed.rt: packed text
+pub mod records; // records.rt: the records on standard input
 
 ghost use Rattle.std.specs.Prelude.{◌≡◌, true};
 ghost use Rattle.model.specs.Values.{finite_bits};
@@ -14,28 +15,47 @@ use balance::nextmove::Balance;
 use memory::header::BLOCKS;
 use memory::point::Point;
 
-// As the record tells.
-pub const AS_TOLD: u32 = 0;
+// What was found of a record.
+#[derive(Clone, Copy, PartialEq, Eq, Debug)]
+pub enum Verdict {
+    AsTold,
+    OtherAnswer,
+    OtherContent,
+    // The record cannot be read.
+    Unreadable,
+    // What the record lends has no room here.
+    PassedOver,
+}
 
-pub const OTHER_ANSWER: u32 = 1;
+impl Verdict {
+    // The end of a line about a record that is not as told.
+    pub fn meaning(self) -> &'static [u8] {
+        match self {
+            Verdict::AsTold => b": as told\n",
+            Verdict::OtherAnswer => b": another answer\n",
+            Verdict::OtherContent => b": other content\n",
+            Verdict::Unreadable => b": cannot be read\n",
+            Verdict::PassedOver => b": passed over\n",
+        }
+    }
+}
 
-pub const OTHER_CONTENT: u32 = 2;
-
-// The record cannot be read.
-pub const UNREADABLE: u32 = 3;
-
-// What the record lends has no room here.
-pub const PASSED_OVER: u32 = 4;
+// Where a call is played: at a node of the rack, or at a viewer.
+#[derive(Clone, Copy, PartialEq, Eq, Debug)]
+pub enum Host {
+    Rack,
+    Viewer,
+}
 
 // What a call did beside what a record tells.
-fn verdict(record: &[u8], answer: u32, same: bool) -> u32 {
+fn judge(record: &[u8], answer: u32, same: bool) -> Verdict {
     if answer != told_answer(record) {
-        return OTHER_ANSWER;
+        return Verdict::OtherAnswer;
     }
     if !same {
-        return OTHER_CONTENT;
+        return Verdict::OtherContent;
     }
-    AS_TOLD
+    Verdict::AsTold
 }
 
 // A number of four bytes.
@@ -91,45 +111,45 @@ fn change_viewer(call: Changing, bytes: &[u8], block: &mut [u64]) -> Answer {
 }
 
 // At a viewer, or at a node of the rack.
-fn change(at_viewer: bool, call: Changing, bytes: &[u8], block: &mut [u64]) -> Answer {
-    if at_viewer {
-        return change_viewer(call, bytes, block);
+fn change(host: Host, call: Changing, bytes: &[u8], block: &mut [u64]) -> Answer {
+    match host {
+        Host::Rack => change_rack(call, bytes, block),
+        Host::Viewer => change_viewer(call, bytes, block),
     }
-    change_rack(call, bytes, block)
 }
 
 // On memory of the record's size, which stands at a place with its change behind it.
 fn change_on(
-    at_viewer: bool,
+    host: Host,
     call: Changing,
     record: &[u8],
     at: usize,
     bytes: &[u8],
     block: &mut [u64],
     told: &mut [u64],
-) -> u32 {
+) -> Verdict {
     if before_and_after(record, at, block, told) != record.len() {
-        return UNREADABLE;
+        return Verdict::Unreadable;
     }
-    let answer = answers::answer_number(change(at_viewer, call, bytes, block));
-    verdict(record, answer, lent::same(block, told))
+    let answer = answers::answer_number(change(host, call, bytes, block));
+    judge(record, answer, &block[..] == &told[..])
 }
 
 // Memory, change, from a place on.
 fn change_from(
-    at_viewer: bool,
+    host: Host,
     call: Changing,
     record: &[u8],
     at: usize,
     bytes: &[u8],
     block: &mut [u64],
     told: &mut [u64],
-) -> u32 {
+) -> Verdict {
     let words = cursor::short(record, at);
     if words <= block.len() {
         if words <= told.len() {
             return change_on(
-                at_viewer,
+                host,
                 call,
                 record,
                 at,
@@ -139,101 +159,93 @@ fn change_from(
             );
         }
     }
-    PASSED_OVER
+    Verdict::PassedOver
 }
 
 // Bytes, memory, change.
 fn change_by_bytes(
-    at_viewer: bool,
+    host: Host,
     call: Changing,
     record: &[u8],
     block: &mut [u64],
     told: &mut [u64],
-) -> u32 {
+) -> Verdict {
     let at = cursor::bytes_end(record, 4);
     if 8 <= at {
         if at <= record.len() {
-            return change_from(at_viewer, call, record, at, &record[8..at], block, told);
+            return change_from(host, call, record, at, &record[8..at], block, told);
         }
     }
-    UNREADABLE
+    Verdict::Unreadable
 }
 
 // Numbers up to a place, memory, change.
 fn change_by_numbers(
-    at_viewer: bool,
+    host: Host,
     call: Changing,
     record: &[u8],
     at: usize,
     block: &mut [u64],
     told: &mut [u64],
-) -> u32 {
-    change_from(at_viewer, call, record, at, b"", block, told)
+) -> Verdict {
+    change_from(host, call, record, at, b"", block, told)
 }
 
 // Empty: number, memory, change.
-pub fn empty_case(at_viewer: bool, record: &[u8], block: &mut [u64], told: &mut [u64]) -> u32 {
+pub fn empty_case(host: Host, record: &[u8], block: &mut [u64], told: &mut [u64]) -> Verdict {
     let call = Changing::Empty(cursor::number(record, 4, 8));
-    change_by_numbers(at_viewer, call, record, 12, block, told)
+    change_by_numbers(host, call, record, 12, block, told)
 }
 
 // Read file: bytes of the file, memory, change.
-pub fn read_file_case(at_viewer: bool, record: &[u8], block: &mut [u64], told: &mut [u64]) -> u32 {
-    change_by_bytes(at_viewer, Changing::ReadFile, record, block, told)
+pub fn read_file_case(host: Host, record: &[u8], block: &mut [u64], told: &mut [u64]) -> Verdict {
+    change_by_bytes(host, Changing::ReadFile, record, block, told)
 }
 
 // Receive: bytes of the message, memory, change.
-pub fn receive_case(at_viewer: bool, record: &[u8], block: &mut [u64], told: &mut [u64]) -> u32 {
-    change_by_bytes(at_viewer, Changing::Receive, record, block, told)
+pub fn receive_case(host: Host, record: &[u8], block: &mut [u64], told: &mut [u64]) -> Verdict {
+    change_by_bytes(host, Changing::Receive, record, block, told)
 }
 
 // Release: destination, serial, memory, change.
-pub fn release_case(at_viewer: bool, record: &[u8], block: &mut [u64], told: &mut [u64]) -> u32 {
+pub fn release_case(host: Host, record: &[u8], block: &mut [u64], told: &mut [u64]) -> Verdict {
     let call = Changing::Release(cursor::number(record, 4, 8), cursor::number(record, 12, 8));
-    change_by_numbers(at_viewer, call, record, 20, block, told)
+    change_by_numbers(host, call, record, 20, block, told)
 }
 
 // Redirect: bytes of the message, memory, change.
-pub fn redirect_case(at_viewer: bool, record: &[u8], block: &mut [u64], told: &mut [u64]) -> u32 {
-    change_by_bytes(at_viewer, Changing::Redirect, record, block, told)
+pub fn redirect_case(host: Host, record: &[u8], block: &mut [u64], told: &mut [u64]) -> Verdict {
+    change_by_bytes(host, Changing::Redirect, record, block, told)
 }
 
 // Packed pages into lent bytes of their length, memory, change.
 fn change_by_pages(
-    at_viewer: bool,
+    host: Host,
     record: &[u8],
     block: &mut [u64],
     told: &mut [u64],
     pages: &mut [u8],
-) -> u32 {
+) -> Verdict {
     let at = packed::end(record, 4);
     if packed::unpack(record, 12, pages) != at {
-        return UNREADABLE;
+        return Verdict::Unreadable;
     }
-    change_from(
-        at_viewer,
-        Changing::ReadPages,
-        record,
-        at,
-        pages,
-        block,
-        told,
-    )
+    change_from(host, Changing::ReadPages, record, at, pages, block, told)
 }
 
 // Read pages: packed pages, memory, change. The pages are unpacked into lent bytes.
 pub fn read_pages_case(
-    at_viewer: bool,
+    host: Host,
     record: &[u8],
     block: &mut [u64],
     told: &mut [u64],
     out: &mut [u8],
-) -> u32 {
+) -> Verdict {
     let bytes = cursor::short(record, 4);
     if bytes <= out.len() {
-        return change_by_pages(at_viewer, record, block, told, &mut out[0..bytes]);
+        return change_by_pages(host, record, block, told, &mut out[0..bytes]);
     }
-    PASSED_OVER
+    Verdict::PassedOver
 }
 
 // A call that reads a block's memory and writes bytes, with its numbers.
@@ -263,11 +275,11 @@ fn write_viewer(call: Writing, block: &[u64], out: &mut [u8]) -> Written {
 }
 
 // At a viewer, or at a node of the rack.
-fn write(at_viewer: bool, call: Writing, block: &[u64], out: &mut [u8]) -> Written {
-    if at_viewer {
-        return write_viewer(call, block, out);
+fn write(host: Host, call: Writing, block: &[u64], out: &mut [u8]) -> Written {
+    match host {
+        Host::Rack => write_rack(call, block, out),
+        Host::Viewer => write_viewer(call, block, out),
     }
-    write_rack(call, block, out)
 }
 
 // The place past a room, whose bytes written are packed if they are pages.
@@ -289,69 +301,69 @@ fn room_is(call: Writing, record: &[u8], room: usize, written: usize, out: &[u8]
 
 // On memory and room of the record's sizes. The memory is lent for reading only.
 fn write_on(
-    at_viewer: bool,
+    host: Host,
     call: Writing,
     record: &[u8],
     room: usize,
     block: &[u64],
     out: &mut [u8],
-) -> u32 {
-    lent::fill(out, cursor::byte(record, cursor::step(record, room, 4)));
-    let written = write(at_viewer, call, block, out);
+) -> Verdict {
+    out.fill(cursor::byte(record, cursor::step(record, room, 4)));
+    let written = write(host, call, block, out);
     let same = room_is(call, record, room, answers::written_bytes(written), out);
-    verdict(record, answers::written_number(written), same)
+    judge(record, answers::written_number(written), same)
 }
 
 // On memory of the record's size, which stands at a place with the room behind it.
 fn write_from(
-    at_viewer: bool,
+    host: Host,
     call: Writing,
     record: &[u8],
     at: usize,
     block: &mut [u64],
     out: &mut [u8],
-) -> u32 {
+) -> Verdict {
     let room = lent::words(record, at, block);
     if room_end(call, record, room) != record.len() {
-        return UNREADABLE;
+        return Verdict::Unreadable;
     }
     let bytes = cursor::short(record, room);
     if bytes <= out.len() {
-        return write_on(at_viewer, call, record, room, block, &mut out[..bytes]);
+        return write_on(host, call, record, room, block, &mut out[..bytes]);
     }
-    PASSED_OVER
+    Verdict::PassedOver
 }
 
 // Numbers up to a place, memory, room.
 fn write_by_numbers(
-    at_viewer: bool,
+    host: Host,
     call: Writing,
     record: &[u8],
     at: usize,
     block: &mut [u64],
     out: &mut [u8],
-) -> u32 {
+) -> Verdict {
     let words = cursor::short(record, at);
     if words <= block.len() {
-        return write_from(at_viewer, call, record, at, &mut block[..words], out);
+        return write_from(host, call, record, at, &mut block[..words], out);
     }
-    PASSED_OVER
+    Verdict::PassedOver
 }
 
 // Save file: memory, room.
-pub fn save_file_case(at_viewer: bool, record: &[u8], block: &mut [u64], out: &mut [u8]) -> u32 {
-    write_by_numbers(at_viewer, Writing::SaveFile, record, 4, block, out)
+pub fn save_file_case(host: Host, record: &[u8], block: &mut [u64], out: &mut [u8]) -> Verdict {
+    write_by_numbers(host, Writing::SaveFile, record, 4, block, out)
 }
 
 // Send: destination, serial, memory, room.
-pub fn send_case(at_viewer: bool, record: &[u8], block: &mut [u64], out: &mut [u8]) -> u32 {
+pub fn send_case(host: Host, record: &[u8], block: &mut [u64], out: &mut [u8]) -> Verdict {
     let call = Writing::Send(cursor::number(record, 4, 8), cursor::number(record, 12, 8));
-    write_by_numbers(at_viewer, call, record, 20, block, out)
+    write_by_numbers(host, call, record, 20, block, out)
 }
 
 // Write pages: memory, room.
-pub fn write_pages_case(at_viewer: bool, record: &[u8], block: &mut [u64], out: &mut [u8]) -> u32 {
-    write_by_numbers(at_viewer, Writing::WritePages, record, 4, block, out)
+pub fn write_pages_case(host: Host, record: &[u8], block: &mut [u64], out: &mut [u8]) -> Verdict {
+    write_by_numbers(host, Writing::WritePages, record, 4, block, out)
 }
 
 // On a mesh and a scratch of the record's sizes; the scratch stands at a place, twice filled from it.
@@ -361,17 +373,17 @@ fn check_with(
     mesh: &[u64],
     scratch: &mut [u64],
     told: &mut [u64],
-) -> u32 {
+) -> Verdict {
     lent::words(record, at, told);
     if lent::words(record, at, scratch) != record.len() {
-        return UNREADABLE;
+        return Verdict::Unreadable;
     }
     let answer = answers::answer_number(checkmesh::check_mesh(mesh, small(record, 4), scratch));
-    verdict(record, answer, lent::same(scratch, told))
+    judge(record, answer, &scratch[..] == &told[..])
 }
 
 // On a mesh of the record's size.
-fn check_on(record: &[u8], mesh: &mut [u64], scratch: &mut [u64], told: &mut [u64]) -> u32 {
+fn check_on(record: &[u8], mesh: &mut [u64], scratch: &mut [u64], told: &mut [u64]) -> Verdict {
     let at = lent::words(record, 8, mesh);
     let entries = cursor::short(record, at);
     if entries <= scratch.len() {
@@ -385,7 +397,7 @@ fn check_on(record: &[u8], mesh: &mut [u64], scratch: &mut [u64], told: &mut [u6
             );
         }
     }
-    PASSED_OVER
+    Verdict::PassedOver
 }
 
 // Check mesh: viewers, memory of the mesh, scratch, which stays.
@@ -394,12 +406,12 @@ pub fn check_mesh_case(
     mesh: &mut [u64],
     scratch: &mut [u64],
     told: &mut [u64],
-) -> u32 {
+) -> Verdict {
     let words = cursor::short(record, 8);
     if words <= mesh.len() {
         return check_on(record, &mut mesh[..words], scratch, told);
     }
-    PASSED_OVER
+    Verdict::PassedOver
 }
 
 // The float of a finite pattern.
@@ -433,38 +445,33 @@ pub fn point(record: &[u8], at: usize) -> Point {
     }
 }
 
-fn wide(x: u32) -> u64 {
-    x as u64
-}
-
 // Whether sixteen surpluses are as words tell.
 fn surpluses_are(record: &[u8], at: usize, surplus: [i32; BLOCKS]) -> bool {
-    // Those before i are, or are not.
-    let mut same = true;
-    let mut i = 0;
-    while i < BLOCKS {
+    // Those before i are.
+    for i in 0..BLOCKS {
         let word = cursor::number(record, cursor::step(record, at, i * 8), 8);
-        same = same & (word == balance::nextmove::signed_word(surplus[i]));
-        i += 1;
+        if word != balance::nextmove::signed_word(surplus[i]) {
+            return false;
+        }
     }
-    same
+    true
 }
 
 // Whether a next move is as 21 words tell: the move, the mean, the surpluses.
 fn balance_is(record: &[u8], at: usize, b: Balance) -> bool {
     let next = b.next;
     let surplus = b.surplus;
-    let mean = cursor::number(record, cursor::step(record, at, 32), 8) == wide(b.mean);
+    let mean = cursor::number(record, cursor::step(record, at, 32), 8) == u64::from(b.mean);
     move_is(record, at, next) & mean & surpluses_are(record, cursor::step(record, at, 40), surplus)
 }
 
 // Whether a next move is as four words tell: level, blocked or a move, donor, recipient, serial.
 fn move_is(record: &[u8], at: usize, m: NextMove) -> bool {
-    let kind = cursor::number(record, at, 8) == wide(answers::move_kind(m));
+    let kind = cursor::number(record, at, 8) == u64::from(answers::move_kind(m));
     let donor = cursor::number(record, cursor::step(record, at, 8), 8)
-        == wide(answers::move_donor(m));
+        == u64::from(answers::move_donor(m));
     let recipient = cursor::number(record, cursor::step(record, at, 16), 8)
-        == wide(answers::move_recipient(m));
+        == u64::from(answers::move_recipient(m));
     let serial = cursor::number(record, cursor::step(record, at, 24), 8) == answers::move_serial(m);
     kind & donor & recipient & serial
 }
@@ -485,20 +492,26 @@ fn asked_move(record: &[u8], mesh: &[u64], scratch: &mut [u64]) -> Balance {
 }
 
 // On a mesh and a scratch of the record's sizes; the scratch stands at a place, the answer behind it.
-fn move_with(record: &[u8], at: usize, mesh: &[u64], scratch: &mut [u64], told: &mut [u64]) -> u32 {
+fn move_with(
+    record: &[u8],
+    at: usize,
+    mesh: &[u64],
+    scratch: &mut [u64],
+    told: &mut [u64],
+) -> Verdict {
     lent::words(record, at, told);
     let end = lent::words(record, at, scratch);
     if cursor::step(record, end, 172) != record.len() {
-        return UNREADABLE;
+        return Verdict::Unreadable;
     }
     let b = asked_move(record, mesh, scratch);
     let next = b.next;
-    let same = lent::same(scratch, told) & balance_is(record, cursor::step(record, end, 4), b);
-    verdict(record, answers::move_number(next), same)
+    let same = (&scratch[..] == &told[..]) & balance_is(record, cursor::step(record, end, 4), b);
+    judge(record, answers::move_number(next), same)
 }
 
 // On a mesh of the record's size.
-fn move_on(record: &[u8], mesh: &mut [u64], scratch: &mut [u64], told: &mut [u64]) -> u32 {
+fn move_on(record: &[u8], mesh: &mut [u64], scratch: &mut [u64], told: &mut [u64]) -> Verdict {
     let at = lent::words(record, 64, mesh);
     let entries = cursor::short(record, at);
     if entries <= scratch.len() {
@@ -512,7 +525,7 @@ fn move_on(record: &[u8], mesh: &mut [u64], scratch: &mut [u64], told: &mut [u64
             );
         }
     }
-    PASSED_OVER
+    Verdict::PassedOver
 }
 
 // Next move: viewers, oracle, axis, six floats, memory of the mesh, scratch, which stays, the size of the lent answer, the answer.
@@ -521,10 +534,10 @@ pub fn next_move_case(
     mesh: &mut [u64],
     scratch: &mut [u64],
     told: &mut [u64],
-) -> u32 {
+) -> Verdict {
     let words = cursor::short(record, 64);
     if words <= mesh.len() {
         return move_on(record, &mut mesh[..words], scratch, told);
     }
-    PASSED_OVER
+    Verdict::PassedOver
 }

@@ -9,10 +9,7 @@ fn add(sum: u64, half: u64) -> u64 {
 }
 
 fn word_at(mesh: &[u64], at: usize) -> u64 {
-    if at < mesh.len() {
-        return mesh[at];
-    }
-    0
+    mesh.get(at).copied().unwrap_or(0)
 }
 
 // Word i of block b.

@@ -5,7 +5,7 @@ use crate::{cursor, lent};
 
 // The number of a piece's last byte.
 fn last(s: &[u8], piece: usize) -> usize {
-    cursor::size(cursor::byte(s, piece) % 128)
+    usize::from(cursor::byte(s, piece) % 128)
 }
 
 // Byte i of a piece.
@@ -50,34 +50,30 @@ fn pieces_end(piece: usize, i: usize) -> usize {
 
 // Fills bytes with the text of pieces; gives the place past these.
 pub fn unpack(s: &[u8], at: usize, out: &mut [u8]) -> usize {
-    // The bytes below p are put; the next one is byte i of the piece.
+    // The next byte is byte i of the piece.
     let mut piece = at;
     let mut i = 0;
-    let mut p = 0;
-    while p < out.len() {
-        out[p] = text_byte(s, piece, i);
+    for byte in out {
+        *byte = text_byte(s, piece, i);
         let next = next_byte(s, piece, i);
         piece = next_piece(s, piece, i);
         i = next;
-        p += 1;
     }
     pieces_end(piece, i)
 }
 
 // The place past pieces whose text bytes are; nowhere for other bytes.
 fn text_end(s: &[u8], at: usize, out: &[u8]) -> usize {
-    // The bytes below p are the text's; the next one is byte i of the piece.
+    // The next byte is byte i of the piece.
     let mut piece = at;
     let mut i = 0;
-    let mut p = 0;
-    while p < out.len() {
-        if cursor::byte(out, p) != text_byte(s, piece, i) {
+    for byte in out {
+        if *byte != text_byte(s, piece, i) {
             return NOWHERE;
         }
         let next = next_byte(s, piece, i);
         piece = next_piece(s, piece, i);
         i = next;
-        p += 1;
     }
     pieces_end(piece, i)
 }

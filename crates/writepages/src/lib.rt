@@ -30,17 +30,17 @@ pub fn write_pages_by(
     ensures { Gives (write_pages (limits_of limits) block.now out.old) (written_of result) out.new }
 {
     if block.len() != limits.words() {
-        return Written::Refused(Refusal::MemorySize);
+        return Err(Refusal::MemorySize);
     }
     if !sound::is_sound_by(block, limits, seen, keys, table, scratch) {
-        return Written::Refused(Refusal::NotAnImage);
+        return Err(Refusal::NotAnImage);
     }
     let pages = page::page_count(block[Header::COUNT] as usize);
     if out.len() < page::PAGE_BYTES * pages {
-        return Written::Refused(Refusal::PagesTooLong);
+        return Err(Refusal::PagesTooLong);
     }
     let n = page::put_pages(block, pages, out);
-    Written::Served(n)
+    Ok(n)
 }
 
 // Writes the pages of a block of the rack.

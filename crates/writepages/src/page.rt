@@ -45,10 +45,8 @@ fn put_lines(block: &[u64], first: usize, out: &mut [u8], at: usize) -> usize
 {
     // The lines below i are stored, up to past.
     let mut past = at;
-    let mut i = 0;
-    while i < PAGE_ROWS {
+    for i in 0..PAGE_ROWS {
         past = put_line(block, first + i, out, past);
-        i += 1;
     }
     past
 }
@@ -69,10 +67,8 @@ pub fn put_pages(block: &[u64], pages: usize, out: &mut [u8]) -> usize
 {
     // The pages below k are stored, up to past.
     let mut past = 0;
-    let mut k = 0;
-    while k < pages {
+    for k in 0..pages {
         past = put_page(block, k, pages, out, past);
-        k += 1;
     }
     past
 }

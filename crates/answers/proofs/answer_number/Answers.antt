@@ -4,6 +4,6 @@ use Rattle.model.specs.Calls.{number_of}
 use Rattle.answers.specs.Answers.{answer_of}
 use Rattle.answers.proofs.answer_number.Goals as goal
 
-pub returns-in-Refused : goal.returns-in-Refused
-returns-in-Refused c =
-    c.refusal_number.ensures ∙ sym (ap (λ x. number_of (answer_of x)) c.in-Refused.is)
+pub returns-in-Err : goal.returns-in-Err
+returns-in-Err c =
+    c.refusal_number.ensures ∙ sym (ap (λ x. number_of (answer_of x)) c.in-Err.is)

@@ -5,13 +5,9 @@ use Rattle.balance.proofs.MovesLaws.{least_small, donor_told, donor_found, donor
 use native.Mathlib.Omega.{arith}
 use Rattle.balance.proofs.first_move.Goals as goal
 
-pub loop-d-init : goal.loop-d-init
-loop-d-init c =
+pub loop-from-init : goal.loop-from-init
+loop-from-init c =
     (refl, searching_start _ _ _)
-
-pub overflow_add-d : goal.overflow_add-d
-overflow_add-d c =
-    omega arith
 
 pub offset_bounds-counts-from : goal.offset_bounds-counts-from
 offset_bounds-counts-from c =
@@ -25,55 +21,47 @@ pub gives-requires : goal.gives-requires
 gives-requires c =
     least_small c.requires.0 c.requires.1 c.requires.2
 
-pub loop-d-smaller-then-not-gives : goal.loop-d-smaller-then-not-gives
-loop-d-smaller-then-not-gives c =
-    omega arith
-
-pub loop-d-preserved-then-not-gives : goal.loop-d-preserved-then-not-gives
-loop-d-preserved-then-not-gives c =
+pub loop-from-preserved-then-not-gives : goal.loop-from-preserved-then-not-gives
+loop-from-preserved-then-not-gives c =
     let o = c.args.o in
     let mesh = c.args.mesh.now in (
-      c.loop-d.invariant.0,
-      searching_skip c.loop-d.invariant.1 c.loop-d-test.true
-          (sym (donor_told c.args.viewers (oracle_of o) mesh c.requires.1 c.requires.2 c.loop-d.d c.loop-d-test.true c.gives.ensures) ∙ c.if-not-gives.true),
+      c.loop-from.invariant.0,
+      searching_skip c.loop-from.invariant.1 c.loop-from-test.true
+          (sym (donor_told c.args.viewers (oracle_of o) mesh c.requires.1 c.requires.2 c.loop-from.from c.loop-from-test.true c.gives.ensures) ∙ c.if-not-gives.true),
     )
 
 pub from_donor-requires : goal.from_donor-requires
 from_donor-requires c =
     record {
-      sound_parts = (c.requires.0, c.loop-d-test.true, omega (arith, c.loop-d.invariant.0, c.requires.3 c.loop-d.d c.loop-d-test.true));
+      sound_parts = (c.requires.0, c.loop-from-test.true, omega (arith, c.loop-from.invariant.0, c.requires.3 c.loop-from.from c.loop-from-test.true));
       cells_counted = c.requires.1;
     }
 
-pub loop-d-smaller : goal.loop-d-smaller
-loop-d-smaller c =
-    omega arith
-
-pub loop-d-preserved : goal.loop-d-preserved
-loop-d-preserved c =
-    let none = donor_none c.args.viewers (oracle_of c.args.o) c.args.mesh.now c.loop-d.d c.from_donor.ensures c.in_default.is in
-    (omega (arith, c.from_donor.auto, c.loop-d.invariant.0), searching_none c.loop-d.invariant.1 c.loop-d-test.true none)
+pub loop-from-preserved : goal.loop-from-preserved
+loop-from-preserved c =
+    let none = donor_none c.args.viewers (oracle_of c.args.o) c.args.mesh.now c.loop-from.from c.from_donor.ensures c.in_default.is in
+    (omega (arith, c.from_donor.auto, c.loop-from.invariant.0), searching_none c.loop-from.invariant.1 c.loop-from-test.true none)
 
 pub overflow_cast-result : goal.overflow_cast-result
 overflow_cast-result c =
     omega arith
 
-pub shape_of-sizes-in-loop-d : goal.shape_of-sizes-in-loop-d
-shape_of-sizes-in-loop-d c =
-    omega (arith, c.from_donor.auto, c.loop-d.invariant.0)
+pub shape_of-sizes-in-loop-from : goal.shape_of-sizes-in-loop-from
+shape_of-sizes-in-loop-from c =
+    omega (arith, c.from_donor.auto, c.loop-from.invariant.0)
 
-pub returns-in-loop-d : goal.returns-in-loop-d
-returns-in-loop-d c =
+pub returns-in-loop-from : goal.returns-in-loop-from
+returns-in-loop-from c =
     let o = c.args.o in
     let mesh = c.args.mesh.now in
-    donor_found c.args.viewers (oracle_of o) mesh c.requires.1 c.requires.2 c.loop-d.invariant.1 c.loop-d-test.true
-    (sym (donor_told c.args.viewers (oracle_of o) mesh c.requires.1 c.requires.2 c.loop-d.d c.loop-d-test.true c.gives.ensures) ∙ c.if-not-gives.false)
-    c.from_donor.ensures c.in-Move.is
+    donor_found c.args.viewers (oracle_of o) mesh c.requires.1 c.requires.2 c.loop-from.invariant.1 c.loop-from-test.true
+    (sym (donor_told c.args.viewers (oracle_of o) mesh c.requires.1 c.requires.2 c.loop-from.from c.loop-from-test.true c.gives.ensures) ∙ c.if-not-gives.false)
+    c.from_donor.ensures c.in-Some.is
 
 pub shape_of-sizes : goal.shape_of-sizes
 shape_of-sizes c =
-    c.loop-d.invariant.0
+    c.loop-from.invariant.0
 
 pub returns : goal.returns
 returns c =
-    donor_end c.args.viewers (oracle_of c.args.o) c.args.mesh.now c.requires.1 c.requires.2 c.loop-d.invariant.1 c.loop-d-test.false
+    donor_end c.args.viewers (oracle_of c.args.o) c.args.mesh.now c.requires.1 c.requires.2 c.loop-from.invariant.1 c.loop-from-test.false

@@ -1,5 +1,4 @@
 -- `balance::first_move` meets its contract. Assumes nothing.
-use Prim.Native.Nat.{◌-◌}
 use mathlib.Core.Path.{◌≡◌}
 use lib.ListN.{length}
 use Rattle.model.specs.Balance.{may_give}
@@ -9,11 +8,7 @@ use Rattle.balance.specs.Moves.{picked_count, moves_from}
 use Rattle.balance.proofs.Searches.{Searching}
 use Rattle.balance.proofs.first_move.Given as goal
 
-abbrev pub invariant-loop-d : goal.invariant-loop-d
-invariant-loop-d l =
+abbrev pub invariant-loop-from : goal.invariant-loop-from
+invariant-loop-from l =
     (length l.sizes ≡ length l.initial.sizes) × Searching (λ b. may_give (picked_count (oracle_of l.o) l.mesh b) l.low)
-    (moves_from l.viewers (oracle_of l.o) l.mesh) (block_count l.mesh) l.d
-
-abbrev pub decreases-loop-d : goal.decreases-loop-d
-decreases-loop-d l =
-    l.k - l.d
+    (moves_from l.viewers (oracle_of l.o) l.mesh) (block_count l.mesh) l.from

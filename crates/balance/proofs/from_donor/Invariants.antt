@@ -1,5 +1,4 @@
 -- `balance::from_donor` meets its contract. Assumes nothing.
-use Prim.Native.Nat.{◌-◌}
 use mathlib.Core.Path.{◌≡◌}
 use lib.ListN.{length}
 use Rattle.model.specs.Balance.{Oracle}
@@ -9,11 +8,7 @@ use Rattle.balance.specs.Moves.{CellsCounted}
 use Rattle.balance.proofs.MovesLaws.{Giving}
 use Rattle.balance.proofs.from_donor.Given as goal
 
-abbrev pub invariant-loop-r : goal.invariant-loop-r
-invariant-loop-r l =
+abbrev pub invariant-loop-to : goal.invariant-loop-to
+invariant-loop-to l =
     (length l.sizes ≡ length l.initial.sizes) ×
-    ((o : Oracle) → CellsCounted o l.mesh l.counts → Sizes o (part l.mesh l.d) l.initial.sizes → Giving l.viewers o l.mesh l.d l.sizes l.r)
-
-abbrev pub decreases-loop-r : goal.decreases-loop-r
-decreases-loop-r l =
-    l.k - l.r
+    ((o : Oracle) → CellsCounted o l.mesh l.counts → Sizes o (part l.mesh l.d) l.initial.sizes → Giving l.viewers o l.mesh l.d l.sizes l.to)

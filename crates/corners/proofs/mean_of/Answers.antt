@@ -23,16 +23,16 @@ place_of-requires c =
     let site = sited c.args.block.now (said_yes c.is_sound.ensures c.if-not-is_sound.false) in
     (site.linked.size, site.ascends)
 
-pub returns-in_default : goal.returns-in_default
-returns-in_default c =
+pub returns-in_err-place : goal.returns-in_err-place
+returns-in_err-place c =
     let m = c.args.block.now in
     let serial = c.args.serial in
-    mean_nowhere m serial (said_yes c.is_sound.ensures c.if-not-is_sound.false) (held_nothing m serial (sym c.place_of.ensures ∙ c.in_default.is))
+    rw c.from_residual.ensures (mean_nowhere m serial (said_yes c.is_sound.ensures c.if-not-is_sound.false) (held_nothing m serial (sym c.place_of.ensures ∙ c.in_err-place.was)))
 
 pub corners_at-count-requires : goal.corners_at-count-requires
 corners_at-count-requires c =
     let m = c.args.block.now in
-    let found = place_at (column m 0) (get_or m 2 0) c.args.serial (sym c.place_of.ensures ∙ c.in-At.is) in
+    let found = place_at (column m 0) (get_or m 2 0) c.args.serial (sym c.place_of.ensures ∙ c.in_ok-place.was) in
     let sound = said_yes c.is_sound.ensures c.if-not-is_sound.false in
     (sound, found.0, zeros_long _ room refl (sited m sound).linked.few)
 
@@ -50,6 +50,6 @@ returns c =
     let m = c.args.block.now in
     let serial = c.args.serial in
     let ok = said_yes c.is_sound.ensures c.if-not-is_sound.false in
-    let found = sym c.place_of.ensures ∙ c.in-At.is in
+    let found = sym c.place_of.ensures ∙ c.in_ok-place.was in
     let here = (place_at (column m 0) (get_or m 2 0) serial found).1 in
     mean_there m serial ok (held_at m serial (sited m ok).ascends found) here c.corners_at-count.ensures c.sum_at-sum.ensures c.over.ensures

@@ -18,10 +18,6 @@ pub joined-value-requires : goal.joined-value-requires
 joined-value-requires c =
     (c.loop-i.invariant.v_le, c.digit.ensures.1)
 
-pub loop-i-smaller : goal.loop-i-smaller
-loop-i-smaller c =
-    omega arith
-
 pub loop-i-preserved : goal.loop-i-preserved
 loop-i-preserved c =
     reading_on c.loop-i.invariant (omega arith) (sym c.is_digit.ensures ∙ c.if-not-is_digit.false) c.digit.ensures.0 c.joined-value.ensures

@@ -1,13 +1,7 @@
--- `decimal::digits_in` meets its contract. The loop's invariant (`Reading`): the bytes before i are digits, and give the value behind n.
--- The measure is what is left of the text. Assumes nothing.
-use Rattle.std.proofs.Common.{◌-◌, length}
+-- `decimal::digits_in` meets its contract. The loop's invariant (`Reading`): the bytes before i are digits, and give the value behind n. Assumes nothing.
 use Rattle.decimal.proofs.Texts.{Reading}
 use Rattle.decimal.proofs.digits_in.Given as goal
 
 abbrev pub invariant-loop-i : goal.invariant-loop-i
 invariant-loop-i l =
     Reading l.n l.text l.value l.i
-
-abbrev pub decreases-loop-i : goal.decreases-loop-i
-decreases-loop-i l =
-    length l.text - l.i

@@ -1,7 +1,7 @@
 -- `decimal::fraction` meets its contract. Assumes nothing.
 use Rattle.decimal.proofs.Texts.{digits_within}
-use Rattle.decimal.proofs.Values.{fraction_none, fraction_some}
-use Rattle.std.proofs.Common.{arith}
+use Rattle.decimal.proofs.Values.{fraction_none, fraction_some, scaled_none}
+use Rattle.std.proofs.Common.{sym, ◌∙◌, arith}
 use Rattle.decimal.proofs.fraction.Goals as goal
 
 pub returns-then-places-eq0 : goal.returns-then-places-eq0
@@ -18,4 +18,9 @@ slice_bounds-exponent_in-start c =
 
 pub returns : goal.returns
 returns c =
-    fraction_some _ c.args.n c.args.text.now c.digits_in-d.ensures c.if-places-eq0.false c.exponent_in.ensures c.scaled.ensures
+    fraction_some _ c.args.n c.args.text.now c.digits_in-d.ensures c.if-places-eq0.false (sym c.in_ok-power.was ∙ c.exponent_in.ensures) c.scaled.ensures
+
+pub returns-in_err-power : goal.returns-in_err-power
+returns-in_err-power c =
+    fraction_some _ c.args.n c.args.text.now c.digits_in-d.ensures c.if-places-eq0.false (sym c.in_err-power.was ∙ c.exponent_in.ensures)
+    (c.from_residual.ensures ∙ scaled_none _ _ _)

@@ -1,5 +1,5 @@
 -- `decimal::scaled` meets its contract. Assumes nothing.
-use Rattle.decimal.proofs.Values.{scaled_up, scaled_down, scaled_not, scaled_far, near_sum}
+use Rattle.decimal.proofs.Values.{scaled_up, scaled_down, scaled_far, near_sum}
 use Rattle.std.proofs.Common.{arith}
 use Rattle.decimal.proofs.scaled.Goals as goal
 
@@ -18,7 +18,3 @@ returns-in-Up c =
 pub returns-else-places-k : goal.returns-else-places-k
 returns-else-places-k c =
     scaled_down _ _ _ _ c.in-Down.is c.nearest-in-Down.ensures
-
-pub returns-in-Not : goal.returns-in-Not
-returns-in-Not c =
-    scaled_not _ _ _ c.in-Not.is

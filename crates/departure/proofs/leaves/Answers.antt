@@ -39,7 +39,7 @@ returns-in_default c =
 pub volume_leaves-requires : goal.volume_leaves-requires
 volume_leaves-requires c =
     let m = c.args.block.now in
-    let held = held_yes m c.args.serial c.place_held.ensures (sited m c.requires.block_value.0) c.in-At.is in
+    let held = held_yes m c.args.serial c.place_held.ensures (sited m c.requires.block_value.0) c.in-Some.is in
     record {
       block_value = (c.requires.block_value.0, c.requires.block_value.1, held.below);
       block_in_bounds = c.requires.block_in_bounds;
@@ -51,7 +51,7 @@ pub returns : goal.returns
 returns c =
     let m = c.args.block.now in
     let serial = c.args.serial in
-    let held = held_yes m serial c.place_held.ensures (sited m c.requires.block_value.0) c.in-At.is in
+    let held = held_yes m serial c.place_held.ensures (sited m c.requires.block_value.0) c.in-Some.is in
     record {
       answer = leaves_told _ m c.args.to serial (said_yes c.destination_right.ensures c.if-not-destination_right.false) held _ _ _ _ _ _
           c.volume_leaves.ensures.answer;

@@ -44,7 +44,7 @@ message_order-order-requires c =
     let m = c.args.block.now in
     let site = sited m c.requires.block_value.0 in
     let below = c.requires.block_value.2 in
-    let walked = walked_told c.args.limits.volume m _ _ _ c.volume_within.ensures c.in-Volume.is in
+    let walked = walked_told c.args.limits.volume m _ _ _ c.volume_within.ensures c.in-Some.is in
     let mk = walked.0.volume_marked in
     let l = site.linked in
     let listed = walked.0.listed in
@@ -64,7 +64,7 @@ none_sewn_within-requires c =
     let m = c.args.block.now in
     let site = sited m c.requires.block_value.0 in
     let below = c.requires.block_value.2 in
-    let walked = walked_told c.args.limits.volume m _ _ _ c.volume_within.ensures c.in-Volume.is in
+    let walked = walked_told c.args.limits.volume m _ _ _ c.volume_within.ensures c.in-Some.is in
     let mk = walked.0.volume_marked in
     record {
       linked = (site.linked, omega (arith, c.requires.block_in_bounds.0, c.volume_within.auto));
@@ -76,7 +76,7 @@ unmark_both-requires c =
     let m = c.args.block.now in
     let site = sited m c.requires.block_value.0 in
     let below = c.requires.block_value.2 in
-    let walked = walked_told c.args.limits.volume m _ _ _ c.volume_within.ensures c.in-Volume.is in
+    let walked = walked_told c.args.limits.volume m _ _ _ c.volume_within.ensures c.in-Some.is in
     let mk = walked.0.volume_marked in
     let clear = c.requires.block_in_bounds in
     unmark_both_ready site below mk c.message_order-order.ensures.ordered c.message_order-order.ensures.seen
@@ -89,7 +89,7 @@ returns-then-not-none_sewn_within c =
     let site = sited m c.requires.block_value.0 in
     let most = c.args.limits.volume in
     let below = c.requires.block_value.2 in
-    let walked = walked_told most m _ _ _ c.volume_within.ensures c.in-Volume.is in
+    let walked = walked_told most m _ _ _ c.volume_within.ensures c.in-Some.is in
     record {
       answer = first_12 most m site below walked.0 walked.1 c.message_order-order.ensures.ordered
           (said_no c.none_sewn_within.ensures c.if-not-none_sewn_within.true);
@@ -101,7 +101,7 @@ pairs_once-requires c =
     let m = c.args.block.now in
     let site = sited m c.requires.block_value.0 in
     let below = c.requires.block_value.2 in
-    let walked = walked_told c.args.limits.volume m _ _ _ c.volume_within.ensures c.in-Volume.is in
+    let walked = walked_told c.args.limits.volume m _ _ _ c.volume_within.ensures c.in-Some.is in
     let mk = walked.0.volume_marked in
     let o = c.message_order-order.ensures.ordered in
     let ready = list_ready site below mk o in
@@ -119,7 +119,7 @@ unmark_both-requires-in_default-pairs_once c =
     let m = c.args.block.now in
     let site = sited m c.requires.block_value.0 in
     let below = c.requires.block_value.2 in
-    let walked = walked_told c.args.limits.volume m _ _ _ c.volume_within.ensures c.in-Volume.is in
+    let walked = walked_told c.args.limits.volume m _ _ _ c.volume_within.ensures c.in-Some.is in
     let mk = walked.0.volume_marked in
     let clear = c.requires.block_in_bounds in
     unmark_both_ready site below mk c.message_order-order.ensures.ordered c.message_order-order.ensures.seen
@@ -140,7 +140,7 @@ returns-in_default-pairs_once c =
     let site = sited m c.requires.block_value.0 in
     let most = c.args.limits.volume in
     let below = c.requires.block_value.2 in
-    let walked = walked_told most m _ _ _ c.volume_within.ensures c.in-Volume.is in
+    let walked = walked_told most m _ _ _ c.volume_within.ensures c.in-Some.is in
     record {
       answer = first_13 most m site below walked.0 walked.1 c.message_order-order.ensures.ordered
           (said_yes c.none_sewn_within.ensures c.if-not-none_sewn_within.false)
@@ -162,7 +162,7 @@ unmark_both-requires-in_default-counter_fits c =
     let m = c.args.block.now in
     let site = sited m c.requires.block_value.0 in
     let below = c.requires.block_value.2 in
-    let walked = walked_told c.args.limits.volume m _ _ _ c.volume_within.ensures c.in-Volume.is in
+    let walked = walked_told c.args.limits.volume m _ _ _ c.volume_within.ensures c.in-Some.is in
     let mk = walked.0.volume_marked in
     let clear = c.requires.block_in_bounds in
     unmark_both_ready site below mk c.message_order-order.ensures.ordered c.message_order-order.ensures.seen
@@ -191,11 +191,11 @@ returns-in_default-counter_fits c =
     let site = sited m c.requires.block_value.0 in
     let most = c.args.limits.volume in
     let below = c.requires.block_value.2 in
-    let walked = walked_told most m _ _ _ c.volume_within.ensures c.in-Volume.is in
+    let walked = walked_told most m _ _ _ c.volume_within.ensures c.in-Some.is in
     record {
       answer = first_14 most m site below walked.0 walked.1 c.message_order-order.ensures.ordered
           (said_yes c.none_sewn_within.ensures c.if-not-none_sewn_within.false)
-          (paired_told m _ _ c.pairs_once.ensures c.in-Once.is) (full_told m _ c.counter_fits.ensures c.in_default-counter_fits.is);
+          (paired_told m _ _ c.pairs_once.ensures c.in-Some-pairs_once.is) (full_told m _ c.counter_fits.ensures c.in_default-counter_fits.is);
       clear = c.unmark_both-in_default-counter_fits.ensures;
     }
 
@@ -214,12 +214,12 @@ returns c =
     let site = sited m c.requires.block_value.0 in
     let most = c.args.limits.volume in
     let below = c.requires.block_value.2 in
-    let walked = walked_told most m _ _ _ c.volume_within.ensures c.in-Volume.is in
-    let counted = counter_told m _ c.counter_fits.ensures c.in-Faces.is in
+    let walked = walked_told most m _ _ _ c.volume_within.ensures c.in-Some.is in
+    let counted = counter_told m _ c.counter_fits.ensures c.in-Some-counter_fits.is in
     record {
       answer = departs most m site below walked.0 walked.1 c.message_order-order.ensures.ordered
           (said_yes c.none_sewn_within.ensures c.if-not-none_sewn_within.false)
-          (paired_told m _ _ c.pairs_once.ensures c.in-Once.is) counted.0 counted.1 c.requires.block_value.1
+          (paired_told m _ _ c.pairs_once.ensures c.in-Some-pairs_once.is) counted.0 counted.1 c.requires.block_value.1
           (omega (arith, c.requires.block_in_bounds.0, c.volume_within.auto));
       clear = tt;
     }

@@ -7,6 +7,6 @@ pub slice_bounds-work-end : goal.slice_bounds-work-end
 slice_bounds-work-end c =
     sym {0} (length-replicate {0} {A = ℕ} 524288 0)
 
-pub slice_bounds-work-end-4 : goal.slice_bounds-work-end-4
-slice_bounds-work-end-4 c =
+pub slice_bounds-lent-end-3 : goal.slice_bounds-lent-end-3
+slice_bounds-lent-end-3 c =
     sym {0} (length-replicate {0} {A = ℕ} 524416 0)

@@ -30,14 +30,6 @@ pub bounds-answer-i : goal.bounds-answer-i
 bounds-answer-i c =
     omega (arith, c.loop-i.invariant.size, c.loop-i-test.true)
 
-pub overflow_add-i : goal.overflow_add-i
-overflow_add-i c =
-    omega arith
-
-pub loop-i-smaller : goal.loop-i-smaller
-loop-i-smaller c =
-    omega arith
-
 pub loop-i-preserved : goal.loop-i-preserved
 loop-i-preserved c =
     let surplus = c.args.surplus in

@@ -1,12 +1,7 @@
 -- `dmap::put_surpluses` meets its contract. Assumes nothing.
-use Prim.Native.Nat.{◌-◌}
 use Rattle.dmap.proofs.Through.{Putting}
 use Rattle.dmap.proofs.put_surpluses.Given as goal
 
 abbrev pub invariant-loop-i : goal.invariant-loop-i
 invariant-loop-i l =
     Putting l.initial.answer l.surplus l.answer l.i
-
-abbrev pub decreases-loop-i : goal.decreases-loop-i
-decreases-loop-i l =
-    16 - l.i

@@ -12,4 +12,4 @@ overflow_sub-n c =
 pub returns : goal.returns
 unfolding group_counts group_count
 returns c =
-    rw (← bit_length c.args.v (omega arith)) c.size.ensures
+    rw (← bit_length c.args.v (omega arith)) c.from.ensures

@@ -6,9 +6,9 @@ use Rattle.groups.proofs.put_group.Goals as goal
 pub put_number-requires : goal.put_number-requires
 unfolding group group_below
 put_number-requires c =
-    record { v_bound = omega arith; v_bound_2 = rw c.widen.ensures c.requires }
+    record { v_bound = omega arith; v_bound_2 = rw c.from.ensures c.requires }
 
 pub returns : goal.returns
 unfolding group group_below
 returns c =
-    rw c.widen.ensures at c.put_number.ensures
+    rw c.from.ensures at c.put_number.ensures

@@ -1,27 +1,16 @@
 use native.Mathlib.Omega.{arith}
-use Rattle.groups.proofs.Coordinates.{spelling_start, spelling_stored, spelling_end}
+use Rattle.groups.proofs.Writing.{stored_none}
+use Rattle.groups.proofs.Coordinates.{bytes_more, bytes_all}
 use Rattle.groups.proofs.put_word_across.Goals as goal
 
-pub loop-left-init : goal.loop-left-init
-loop-left-init c =
-    spelling_start _ _ _
+pub loop-b-init : goal.loop-b-init
+loop-b-init c =
+    (omega arith, stored_none _ _)
 
-pub put_byte-p-requires : goal.put_byte-p-requires
-put_byte-p-requires c =
-    omega arith
-
-pub loop-left-smaller : goal.loop-left-smaller
-loop-left-smaller c =
-    omega arith
-
-pub loop-left-preserved : goal.loop-left-preserved
-loop-left-preserved c =
-    spelling_stored c.loop-left.invariant c.loop-left-test.true c.put_byte-p.ensures
-
-pub shape_of-out : goal.shape_of-out
-shape_of-out c =
-    c.loop-left.invariant.same_length
+pub loop-b-preserved : goal.loop-b-preserved
+loop-b-preserved c =
+    (omega (arith, c.put_byte-p.ensures.past, c.loop-b.invariant.0), bytes_more _ _ c.loop-b.invariant.1 (rw c.to_le_bytes-b-items.ensures c.loop-b-test.true) c.put_byte-p.ensures)
 
 pub returns : goal.returns
 returns c =
-    spelling_end c.loop-left.invariant (omega arith)
+    bytes_all _ _ _ c.loop-b.invariant.1 c.loop-b-test.false c.to_le_bytes-b-items.ensures

@@ -10,12 +10,12 @@ returns-then-s-at c =
 
 pub returns-then-b-lt128 : goal.returns-then-b-lt128
 returns-then-b-lt128 c =
-    c.keep.ensures ∙ below_last _ _ _ _ _ c.if-s-at.false c.wide-b.ensures.0 c.if-b-lt128.true
+    c.keep.ensures ∙ below_last _ _ _ _ _ c.if-s-at.false c.from-b.ensures c.if-b-lt128.true
 
 pub returns-then-more-eq0 : goal.returns-then-more-eq0
 returns-then-more-eq0 c =
-    below_full _ _ _ _ _ c.if-s-at.false c.wide-b.ensures.0 c.if-b-lt128.false c.if-more-eq0.true
+    below_full _ _ _ _ _ c.if-s-at.false c.from-b.ensures c.if-b-lt128.false c.if-more-eq0.true
 
 pub returns : goal.returns
 returns c =
-    c.read_more.ensures ∙ below_more _ _ _ _ _ c.if-s-at.false c.wide-b.ensures.0 c.if-b-lt128.false (omega arith)
+    c.read_more.ensures ∙ below_more _ _ _ _ _ c.if-s-at.false c.from-b.ensures c.if-b-lt128.false (omega arith)

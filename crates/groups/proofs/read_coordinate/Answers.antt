@@ -10,7 +10,3 @@ returns-then-s-lt8 c =
 pub returns-then-s-at : goal.returns-then-s-at
 returns-then-s-at c =
     coordinate_short _ _ (omega arith)
-
-pub returns : goal.returns
-returns c =
-    c.word_at.ensures

@@ -5,7 +5,7 @@ use Rattle.groups.proofs.read_group.Goals as goal
 
 pub returns-then-b-lt128 : goal.returns-then-b-lt128
 returns-then-b-lt128 c =
-    group_one _ _ _ c.if-at-s.true c.wide-b.ensures.0 c.if-b-lt128.true
+    group_one _ _ _ c.if-at-s.true c.from-b.ensures c.if-b-lt128.true
 
 pub returns : goal.returns
 unfolding group

@@ -4,5 +4,5 @@ use Rattle.groups.proofs.word_at.Goals as goal
 
 pub returns : goal.returns
 returns c =
-    coordinate_word _ _ _ _ _ _ _ _ _ _ c.requires c.wide-a.ensures.0 c.wide-b.ensures.0 c.wide-c.ensures.0 c.wide-d.ensures.0
-    c.wide-e.ensures.0 c.wide-f.ensures.0 c.wide-g.ensures.0 c.wide-h.ensures.0
+    coordinate_word _ _ _ _ _ _ _ _ _ _ c.requires c.from-a.ensures c.from-b.ensures c.from-c.ensures c.from-d.ensures
+    c.from-e.ensures c.from-f.ensures c.from-g.ensures c.from-h.ensures

@@ -10,14 +10,14 @@ pub put_listing-requires : goal.put_listing-requires
 put_listing-requires c =
     let file = c.args.file.now in (
       served_image rack file _ (omega arith) (byte_list file (λ i. Fits-lt-pow (c.type_inv.file i)))
-          (gives_served c.in-Served.is c.read_file.ensures),
+          (gives_served c.in-Ok.is c.read_file.ensures),
       c.requires,
     )
 
-pub returns-in-Served : goal.returns-in-Served
-returns-in-Served c =
-    printed_as (of_served _ (gives_served c.in-Served.is c.read_file.ensures)) c.put_listing.ensures
+pub returns-in-Ok : goal.returns-in-Ok
+returns-in-Ok c =
+    printed_as (of_served _ (gives_served c.in-Ok.is c.read_file.ensures)) c.put_listing.ensures
 
-pub returns-in-Refused : goal.returns-in-Refused
-returns-in-Refused c =
-    printed_number c.refusal_number.ensures (of_refused _ (gives_refused c.in-Refused.is c.read_file.ensures)) c.put_refused.ensures
+pub returns-in-Err : goal.returns-in-Err
+returns-in-Err c =
+    printed_number c.refusal_number.ensures (of_refused _ (gives_refused c.in-Err.is c.read_file.ensures)) c.put_refused.ensures

@@ -1,6 +1,5 @@
 -- `mesh::numbered` meets its contract.
 -- Assumes nothing.
-use Prim.Native.Nat.{◌-◌}
 use Rattle.mesh.specs.Parts.{number_test}
 use Rattle.mesh.proofs.Parts.{Tested}
 use Rattle.mesh.proofs.numbered.Given as goal
@@ -8,7 +7,3 @@ use Rattle.mesh.proofs.numbered.Given as goal
 abbrev pub invariant-loop-i : goal.invariant-loop-i
 invariant-loop-i l =
     Tested (number_test l.mesh) l.k l.ok l.i
-
-abbrev pub decreases-loop-i : goal.decreases-loop-i
-decreases-loop-i l =
-    l.k - l.i

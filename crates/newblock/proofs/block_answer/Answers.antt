@@ -1,5 +1,6 @@
 -- `newblock::block_answer` meets its contract: 4, what a callee asked of the links, then 8.
 -- Assumes nothing.
+use Rattle.std.proofs.lemmas.Result.{err_from_is_err_and}
 use Rattle.std.proofs.Common.{sym, ap, ◌∙◌}
 use Rattle.model.specs.Image.{block_in}
 use Rattle.answers.specs.Answers.{answer_of}
@@ -13,7 +14,7 @@ returns-then-not-coordinates_finite c =
 
 pub points_agree-requires : goal.points_agree-requires
 points_agree-requires c =
-    let linked = links_told (block_in c.args.block.now) (ap answer_of (sym c.in-Served.is) ∙ c.link_answer.ensures) in (
+    let linked = links_told (block_in c.args.block.now) (ap answer_of (sym c.in_ok-link_answer.was) ∙ c.link_answer.ensures) in (
       c.requires.block_in_bounds.0,
       c.requires.block_in_bounds.1,
       said_yes c.coordinates_finite.ensures c.if-not-coordinates_finite.false,
@@ -24,14 +25,15 @@ points_agree-requires c =
 pub returns-then-not-points_agree : goal.returns-then-not-points_agree
 returns-then-not-points_agree c =
     points_no (block_in c.args.block.now) (said_yes c.coordinates_finite.ensures c.if-not-coordinates_finite.false)
-    (ap answer_of (sym c.in-Served.is) ∙ c.link_answer.ensures) (said_no c.points_agree.ensures c.if-not-points_agree.true)
+    (ap answer_of (sym c.in_ok-link_answer.was) ∙ c.link_answer.ensures) (said_no c.points_agree.ensures c.if-not-points_agree.true)
 
-pub returns-else-not-points_agree : goal.returns-else-not-points_agree
-returns-else-not-points_agree c =
+pub returns : goal.returns
+returns c =
     all_yes (block_in c.args.block.now) (said_yes c.coordinates_finite.ensures c.if-not-coordinates_finite.false)
-    (ap answer_of (sym c.in-Served.is) ∙ c.link_answer.ensures) (said_yes c.points_agree.ensures c.if-not-points_agree.false)
+    (ap answer_of (sym c.in_ok-link_answer.was) ∙ c.link_answer.ensures) (said_yes c.points_agree.ensures c.if-not-points_agree.false)
 
-pub returns-in-Refused : goal.returns-in-Refused
-returns-in-Refused c =
-    links_no (block_in c.args.block.now) (said_yes c.coordinates_finite.ensures c.if-not-coordinates_finite.false)
-    (ap answer_of (sym c.in-Refused.is) ∙ c.link_answer.ensures)
+pub returns-in_err-link_answer : goal.returns-in_err-link_answer
+returns-in_err-link_answer c =
+    let p = err_from_is_err_and c.from_residual.result c.from_residual.ensures.1 in
+    rw (p.1, p.2) (links_no (block_in c.args.block.now) (said_yes c.coordinates_finite.ensures c.if-not-coordinates_finite.false)
+    (ap answer_of (sym c.in_err-link_answer.was) ∙ c.link_answer.ensures))

@@ -3,10 +3,10 @@
 use Rattle.reader.proofs.Heads.{head_short, head_whole}
 use Rattle.reader.proofs.head_of.Goals as goal
 
-pub returns-in_default-to : goal.returns-in_default-to
-returns-in_default-to c =
-    head_short c.in-Value.is c.in-Value-kind.is c.in-Value-from.is c.in_default-to.is
+pub returns-in_err-t : goal.returns-in_err-t
+returns-in_err-t c =
+    rw c.from_residual-in_err-t.ensures (head_short c.in_ok-n.was c.in_ok-k.was c.in_ok-f.was c.in_err-t.was)
 
 pub returns : goal.returns
 returns c =
-    head_whole c.in-Value.is c.in-Value-kind.is c.in-Value-from.is c.in-Value-to.is
+    head_whole c.in_ok-n.was c.in_ok-k.was c.in_ok-f.was c.in_ok-t.was

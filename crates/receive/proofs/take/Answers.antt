@@ -27,7 +27,7 @@ join-requires c =
     let lim = limits_of c.args.limits in
     let here = c.requires.block_le_room in
     let lent = c.requires.lent_arrays in
-    let y = asked_yes c.questions.ensures c.in-Served.is in
+    let y = asked_yes c.questions.ensures c.in-Ok.is in
     let long : c.args.front.darts ≤ length c.args.serial.now = omega (arith, here.3.serial_size, (told_of here.4.2).few) in
     let joins = may_join lim here.0 here.1 here.2 long y here.4.0 here.4.1 here.4.2 in
     let count = new_count lim here.0 here.1 here.2 long y here.4.0 here.4.1 here.4.2 in
@@ -41,159 +41,159 @@ join-requires c =
       );
     }
 
-pub shape_of-vertex-in-Refused : goal.shape_of-vertex-in-Refused
-shape_of-vertex-in-Refused c =
+pub shape_of-vertex-in-Err : goal.shape_of-vertex-in-Err
+shape_of-vertex-in-Err c =
     omega (arith, c.questions.auto)
 
-pub shape_of-serial-in-Refused : goal.shape_of-serial-in-Refused
-shape_of-serial-in-Refused c =
+pub shape_of-serial-in-Err : goal.shape_of-serial-in-Err
+shape_of-serial-in-Err c =
     omega (arith, c.questions.auto)
 
-pub shape_of-keys-in-Refused : goal.shape_of-keys-in-Refused
-shape_of-keys-in-Refused c =
+pub shape_of-keys-in-Err : goal.shape_of-keys-in-Err
+shape_of-keys-in-Err c =
     omega (arith, c.questions.auto)
 
-pub shape_of-ranks-in-Refused : goal.shape_of-ranks-in-Refused
-shape_of-ranks-in-Refused c =
+pub shape_of-ranks-in-Err : goal.shape_of-ranks-in-Err
+shape_of-ranks-in-Err c =
     omega (arith, c.questions.auto)
 
-pub shape_of-opposite-in-Refused : goal.shape_of-opposite-in-Refused
-shape_of-opposite-in-Refused c =
+pub shape_of-opposite-in-Err : goal.shape_of-opposite-in-Err
+shape_of-opposite-in-Err c =
     omega (arith, c.questions.auto)
 
-pub shape_of-draft-in-Refused : goal.shape_of-draft-in-Refused
-shape_of-draft-in-Refused c =
+pub shape_of-draft-in-Err : goal.shape_of-draft-in-Err
+shape_of-draft-in-Err c =
     omega (arith, c.questions.auto)
 
-pub shape_of-kinds-in-Refused : goal.shape_of-kinds-in-Refused
-shape_of-kinds-in-Refused c =
+pub shape_of-kinds-in-Err : goal.shape_of-kinds-in-Err
+shape_of-kinds-in-Err c =
     omega (arith, c.questions.auto)
 
-pub shape_of-links-in-Refused : goal.shape_of-links-in-Refused
-shape_of-links-in-Refused c =
+pub shape_of-links-in-Err : goal.shape_of-links-in-Err
+shape_of-links-in-Err c =
     omega (arith, c.questions.auto)
 
-pub shape_of-old-in-Refused : goal.shape_of-old-in-Refused
-shape_of-old-in-Refused c =
+pub shape_of-old-in-Err : goal.shape_of-old-in-Err
+shape_of-old-in-Err c =
     omega (arith, c.questions.auto)
 
-pub shape_of-new-in-Refused : goal.shape_of-new-in-Refused
-shape_of-new-in-Refused c =
+pub shape_of-new-in-Err : goal.shape_of-new-in-Err
+shape_of-new-in-Err c =
     omega (arith, c.questions.auto)
 
-pub shape_of-codes-in-Refused : goal.shape_of-codes-in-Refused
-shape_of-codes-in-Refused c =
+pub shape_of-codes-in-Err : goal.shape_of-codes-in-Err
+shape_of-codes-in-Err c =
     omega (arith, c.questions.auto)
 
-pub shape_of-indices-in-Refused : goal.shape_of-indices-in-Refused
-shape_of-indices-in-Refused c =
+pub shape_of-indices-in-Err : goal.shape_of-indices-in-Err
+shape_of-indices-in-Err c =
     omega (arith, c.questions.auto)
 
-pub shape_of-numbers-in-Refused : goal.shape_of-numbers-in-Refused
-shape_of-numbers-in-Refused c =
+pub shape_of-numbers-in-Err : goal.shape_of-numbers-in-Err
+shape_of-numbers-in-Err c =
     omega (arith, c.questions.auto)
 
-pub shape_of-third-in-Refused : goal.shape_of-third-in-Refused
-shape_of-third-in-Refused c =
+pub shape_of-third-in-Err : goal.shape_of-third-in-Err
+shape_of-third-in-Err c =
     omega (arith, c.questions.auto)
 
-pub shape_of-places-in-Refused : goal.shape_of-places-in-Refused
-shape_of-places-in-Refused c =
+pub shape_of-places-in-Err : goal.shape_of-places-in-Err
+shape_of-places-in-Err c =
     omega (arith, c.questions.auto)
 
-pub shape_of-marks-in-Refused : goal.shape_of-marks-in-Refused
-shape_of-marks-in-Refused c =
+pub shape_of-marks-in-Err : goal.shape_of-marks-in-Err
+shape_of-marks-in-Err c =
     omega (arith, c.questions.auto)
 
-pub shape_of-seen-in-Refused : goal.shape_of-seen-in-Refused
-shape_of-seen-in-Refused c =
+pub shape_of-seen-in-Err : goal.shape_of-seen-in-Err
+shape_of-seen-in-Err c =
     omega (arith, c.questions.auto)
 
-pub returns-in-Refused : goal.returns-in-Refused
-returns-in-Refused c =
+pub returns-in-Err : goal.returns-in-Err
+returns-in-Err c =
     let lim = limits_of c.args.limits in
     let block = c.args.block.now in
     let here = c.requires.block_le_room in
     let is = sym (image_by_size lim block here.0 here.1) ∙ here.2 in
-    record { gives = λ t e w. transfer_refused lim block here.1 is t (asked_no c.questions.ensures c.in-Refused.is t e w) }
+    record { gives = λ t e w. transfer_refused lim block here.1 is t (asked_no c.questions.ensures c.in-Err.is t e w) }
 
-pub shape_of-block-in-Served : goal.shape_of-block-in-Served
-shape_of-block-in-Served c =
+pub shape_of-block-in-Ok : goal.shape_of-block-in-Ok
+shape_of-block-in-Ok c =
     omega (arith, c.join.auto)
 
-pub shape_of-vertex-in-Served : goal.shape_of-vertex-in-Served
-shape_of-vertex-in-Served c =
+pub shape_of-vertex-in-Ok : goal.shape_of-vertex-in-Ok
+shape_of-vertex-in-Ok c =
     omega (arith, c.questions.auto)
 
-pub shape_of-serial-in-Served : goal.shape_of-serial-in-Served
-shape_of-serial-in-Served c =
+pub shape_of-serial-in-Ok : goal.shape_of-serial-in-Ok
+shape_of-serial-in-Ok c =
     omega (arith, c.questions.auto)
 
-pub shape_of-keys-in-Served : goal.shape_of-keys-in-Served
-shape_of-keys-in-Served c =
+pub shape_of-keys-in-Ok : goal.shape_of-keys-in-Ok
+shape_of-keys-in-Ok c =
     omega (arith, c.questions.auto)
 
-pub shape_of-ranks-in-Served : goal.shape_of-ranks-in-Served
-shape_of-ranks-in-Served c =
+pub shape_of-ranks-in-Ok : goal.shape_of-ranks-in-Ok
+shape_of-ranks-in-Ok c =
     omega (arith, c.questions.auto)
 
-pub shape_of-opposite-in-Served : goal.shape_of-opposite-in-Served
-shape_of-opposite-in-Served c =
+pub shape_of-opposite-in-Ok : goal.shape_of-opposite-in-Ok
+shape_of-opposite-in-Ok c =
     omega (arith, c.questions.auto)
 
-pub shape_of-draft-in-Served : goal.shape_of-draft-in-Served
-shape_of-draft-in-Served c =
+pub shape_of-draft-in-Ok : goal.shape_of-draft-in-Ok
+shape_of-draft-in-Ok c =
     omega (arith, c.questions.auto)
 
-pub shape_of-kinds-in-Served : goal.shape_of-kinds-in-Served
-shape_of-kinds-in-Served c =
+pub shape_of-kinds-in-Ok : goal.shape_of-kinds-in-Ok
+shape_of-kinds-in-Ok c =
     omega (arith, c.questions.auto)
 
-pub shape_of-links-in-Served : goal.shape_of-links-in-Served
-shape_of-links-in-Served c =
+pub shape_of-links-in-Ok : goal.shape_of-links-in-Ok
+shape_of-links-in-Ok c =
     omega (arith, c.questions.auto)
 
-pub shape_of-old-in-Served : goal.shape_of-old-in-Served
-shape_of-old-in-Served c =
+pub shape_of-old-in-Ok : goal.shape_of-old-in-Ok
+shape_of-old-in-Ok c =
     omega (arith, c.join.auto, c.questions.auto)
 
-pub shape_of-new-in-Served : goal.shape_of-new-in-Served
-shape_of-new-in-Served c =
+pub shape_of-new-in-Ok : goal.shape_of-new-in-Ok
+shape_of-new-in-Ok c =
     omega (arith, c.join.auto, c.questions.auto)
 
-pub shape_of-codes-in-Served : goal.shape_of-codes-in-Served
-shape_of-codes-in-Served c =
+pub shape_of-codes-in-Ok : goal.shape_of-codes-in-Ok
+shape_of-codes-in-Ok c =
     omega (arith, c.questions.auto)
 
-pub shape_of-indices-in-Served : goal.shape_of-indices-in-Served
-shape_of-indices-in-Served c =
+pub shape_of-indices-in-Ok : goal.shape_of-indices-in-Ok
+shape_of-indices-in-Ok c =
     omega (arith, c.questions.auto)
 
-pub shape_of-numbers-in-Served : goal.shape_of-numbers-in-Served
-shape_of-numbers-in-Served c =
+pub shape_of-numbers-in-Ok : goal.shape_of-numbers-in-Ok
+shape_of-numbers-in-Ok c =
     omega (arith, c.questions.auto)
 
-pub shape_of-third-in-Served : goal.shape_of-third-in-Served
-shape_of-third-in-Served c =
+pub shape_of-third-in-Ok : goal.shape_of-third-in-Ok
+shape_of-third-in-Ok c =
     omega (arith, c.questions.auto)
 
-pub shape_of-places-in-Served : goal.shape_of-places-in-Served
-shape_of-places-in-Served c =
+pub shape_of-places-in-Ok : goal.shape_of-places-in-Ok
+shape_of-places-in-Ok c =
     omega (arith, c.questions.auto)
 
-pub shape_of-marks-in-Served : goal.shape_of-marks-in-Served
-shape_of-marks-in-Served c =
+pub shape_of-marks-in-Ok : goal.shape_of-marks-in-Ok
+shape_of-marks-in-Ok c =
     omega (arith, c.questions.auto)
 
-pub shape_of-seen-in-Served : goal.shape_of-seen-in-Served
-shape_of-seen-in-Served c =
+pub shape_of-seen-in-Ok : goal.shape_of-seen-in-Ok
+shape_of-seen-in-Ok c =
     omega (arith, c.questions.auto)
 
-pub returns-in-Served : goal.returns-in-Served
-returns-in-Served c =
+pub returns-in-Ok : goal.returns-in-Ok
+returns-in-Ok c =
     let message = c.args.message.now in
     let here = c.requires.block_le_room in
-    let y = asked_yes c.questions.ensures c.in-Served.is in
+    let y = asked_yes c.questions.ensures c.in-Ok.is in
     record {
       gives =
           λ t e w. served_image (limits_of c.args.limits) here.0 here.1 here.2

@@ -27,25 +27,25 @@ let_go-requires c =
         serial = serial';
         numbers = _;
         firsts = _;
-        departs = departs_told most block to serial' _ _ _ _ _ c.leaves.ensures.answer c.in-Volume.is;
+        departs = departs_told most block to serial' _ _ _ _ _ c.leaves.ensures.answer c.in-Ok.is;
       };
       block_in_bounds = omega (arith, c.leaves.auto, c.requires.block_in_bounds_2.2);
     }
 
-pub returns-in-Refused : goal.returns-in-Refused
-returns-in-Refused c =
+pub returns-in-Err : goal.returns-in-Err
+returns-in-Err c =
     let block = c.args.block.now in
     let most = c.args.limits.volume in
     let to = c.args.to in
     let serial = c.args.serial in
     volume_refused block to serial (limits_of c.args.limits) c.requires.block_len.0 c.requires.block_len.1
-    (refused_told most block to serial _ _ _ _ _ c.leaves.ensures.answer c.in-Refused.is)
+    (refused_told most block to serial _ _ _ _ _ c.leaves.ensures.answer c.in-Err.is)
 
-pub returns-in-Volume : goal.returns-in-Volume
-returns-in-Volume c =
+pub returns-in-Ok : goal.returns-in-Ok
+returns-in-Ok c =
     let block = c.args.block.now in
     let most = c.args.limits.volume in
     let to = c.args.to in
     let serial = c.args.serial in
     volume_released block to serial (limits_of c.args.limits) c.requires.block_len.0 c.requires.block_len.1 c.requires.block_len.2
-    (departs_told most block to serial _ _ _ _ _ c.leaves.ensures.answer c.in-Volume.is) c.let_go.ensures
+    (departs_told most block to serial _ _ _ _ _ c.leaves.ensures.answer c.in-Ok.is) c.let_go.ensures

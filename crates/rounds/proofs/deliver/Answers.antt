@@ -31,17 +31,17 @@ returns-then-finish c =
     let sent = c.args.sent.now in
     deliver_finished c.args.viewers mesh from to serial sent c.first_message-first.result c.first_message-first.ensures c.receive_at.result
     c.receive_at.ensures
-    c.in-Served.is c.finish.ensures c.if-finish.true
+    c.in-Ok.is c.finish.ensures c.if-finish.true
 
-pub returns-in-Refused : goal.returns-in-Refused
-returns-in-Refused c =
+pub returns-in-Err : goal.returns-in-Err
+returns-in-Err c =
     let mesh = c.args.mesh.now in
     let from = c.args.from in
     let to = c.args.to in
     let serial = c.args.serial in
     let sent = c.args.sent.now in
     deliver_refused c.args.viewers mesh from to serial sent c.first_message-first.result c.first_message-first.ensures c.receive_at.result
-    c.receive_at.ensures _ c.in-Refused.is
+    c.receive_at.ensures _ c.in-Err.is
 
 pub returns-else-finish : goal.returns-else-finish
 returns-else-finish c =
@@ -52,4 +52,4 @@ returns-else-finish c =
     let sent = c.args.sent.now in
     deliver_unfinished c.args.viewers mesh from to serial sent c.first_message-first.result c.first_message-first.ensures c.receive_at.result
     c.receive_at.ensures
-    c.in-Served.is c.finish.ensures c.if-finish.false
+    c.in-Ok.is c.finish.ensures c.if-finish.false

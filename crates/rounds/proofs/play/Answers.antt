@@ -11,26 +11,26 @@ returns-then-mesh-from c =
 
 pub slice_bounds-deliver-end : goal.slice_bounds-deliver-end
 slice_bounds-deliver-end c =
-    within_outbox _ _ c.args.to c.args.serial c.args.outbox.now c.send_part.ensures c.in-Served.is
+    within_outbox _ _ c.args.to c.args.serial c.args.outbox.now c.send_part.ensures c.in-Ok.is
 
-pub slice_bounds-deliver-end-in-Served : goal.slice_bounds-deliver-end-in-Served
-slice_bounds-deliver-end-in-Served c =
-    sym (length-take-le _ _ (within_outbox _ _ c.args.to c.args.serial c.args.outbox.now c.send_part.ensures c.in-Served.is))
+pub slice_bounds-deliver-end-in-Ok : goal.slice_bounds-deliver-end-in-Ok
+slice_bounds-deliver-end-in-Ok c =
+    sym (length-take-le _ _ (within_outbox _ _ c.args.to c.args.serial c.args.outbox.now c.send_part.ensures c.in-Ok.is))
 
-pub returns-in-Refused : goal.returns-in-Refused
-returns-in-Refused c =
+pub returns-in-Err : goal.returns-in-Err
+returns-in-Err c =
     let mesh = c.args.mesh.now in
     let from = c.args.from in
     let to = c.args.to in
     let serial = c.args.serial in
     let outbox = c.args.outbox.now in
-    refused_by_send c.args.viewers mesh from to serial outbox c.if-mesh-from.false _ c.send_part.ensures c.in-Refused.is
+    refused_by_send c.args.viewers mesh from to serial outbox c.if-mesh-from.false _ c.send_part.ensures c.in-Err.is
 
-pub returns-in-Served : goal.returns-in-Served
-returns-in-Served c =
+pub returns-in-Ok : goal.returns-in-Ok
+returns-in-Ok c =
     let mesh = c.args.mesh.now in
     let from = c.args.from in
     let to = c.args.to in
     let serial = c.args.serial in
     let outbox = c.args.outbox.now in
-    was_played c.args.viewers mesh from to serial outbox c.if-mesh-from.false _ _ c.send_part.ensures c.in-Served.is c.deliver.ensures
+    was_played c.args.viewers mesh from to serial outbox c.if-mesh-from.false _ _ c.send_part.ensures c.in-Ok.is c.deliver.ensures

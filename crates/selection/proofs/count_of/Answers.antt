@@ -1,41 +1,35 @@
+use Prim.Native.Nat.{ℕ, ◌<◌, ◌≤◌}
 use mathlib.Core.Path.{◌≡◌, refl, ap, ◌∙◌}
 use lib.Dec.{ltb}
 use lib.ListN.{get_or}
+use Rattle.std.proofs.Common.{get_or-take, length-take-le}
 use Rattle.selection.proofs.Loops.{count_below, count_few, count_yes, count_no, not_zero, is_zero}
 use native.Mathlib.Omega.{arith}
 use Rattle.selection.proofs.count_of.Goals as goal
+use Rattle.selection.proofs.count_of.Goals.{then-s-ne0, else-s-ne0}
 
-pub loop-p-init : goal.loop-p-init
-loop-p-init c =
+pub loop-s-init : goal.loop-s-init
+loop-s-init c =
     (omega arith, refl)
-
-pub loop-p-smaller-then-s-eq0 : goal.loop-p-smaller-then-s-eq0
-loop-p-smaller-then-s-eq0 c =
-    omega arith
-
-pub loop-p-preserved-then-s-eq0 : goal.loop-p-preserved-then-s-eq0
-loop-p-preserved-then-s-eq0 c =
-    let sizes = c.args.sizes.now in (
-      omega (arith, c.loop-p-test.true),
-      count_no (λ x. ltb 0 (get_or sizes x 0)) c.loop-p.p c.loop-p.c c.loop-p.invariant.1 (is_zero sizes c.loop-p.p _ refl c.if-s-eq0.true),
-    )
 
 pub overflow_add-c : goal.overflow_add-c
 overflow_add-c c =
-    omega (arith, c.loop-p.invariant.0, c.loop-p.invariant.1, count_few (λ x. ltb 0 (get_or c.args.sizes.now x 0)) c.loop-p.p, c.requires.0)
+    omega (arith, c.loop-s.invariant.0, c.loop-s.invariant.1, count_few (λ x. ltb 0 (get_or c.args.sizes.now x 0)) c.loop-s.s-index, c.requires.0)
 
-pub loop-p-smaller : goal.loop-p-smaller
-loop-p-smaller c =
-    omega arith
-
-pub loop-p-preserved : goal.loop-p-preserved
-loop-p-preserved c =
-    let sizes = c.args.sizes.now in (
-      omega (arith, c.loop-p-test.true),
-      count_yes (λ x. ltb 0 (get_or sizes x 0)) c.loop-p.p c.loop-p.c c.loop-p.invariant.1 (not_zero sizes c.loop-p.p _ refl c.if-s-eq0.false),
-    )
+pub loop-s-preserved : goal.loop-s-preserved
+loop-s-preserved c =
+    let sizes = c.args.sizes.now in
+    let p = c.loop-s.s-index in
+    let held = λ (x : ℕ). ltb 0 (get_or sizes x 0) in
+    let below : p < c.args.n = omega (arith, length-take-le c.args.n sizes c.requires.1, c.loop-s-test.true) in
+    let same = get_or-take c.args.n sizes p 0 below in
+    elim c.if-s-ne0.branch [
+      | then-s-ne0 w ↦ (omega (arith, below), w.c-is ∙ count_yes held p c.loop-s.c c.loop-s.invariant.1 (not_zero sizes p _ same w.if-s-ne0.true))
+      | else-s-ne0 w ↦ (omega (arith, below), w.c-is ∙ count_no held p c.loop-s.c c.loop-s.invariant.1 (is_zero sizes p _ same w.if-s-ne0.false))
+    ]
 
 pub returns : goal.returns
 returns c =
-    let e : c.loop-p.p ≡ c.args.n = omega (arith, c.loop-p.invariant.0, c.loop-p-test.false) in
-    c.loop-p.invariant.1 ∙ ap (count_below (λ x. ltb 0 (get_or c.args.sizes.now x 0))) e
+    let all : c.args.n ≤ c.loop-s.s-index = omega (arith, length-take-le c.args.n c.args.sizes.now c.requires.1, c.loop-s-test.false) in
+    let e : c.loop-s.s-index ≡ c.args.n = omega (arith, c.loop-s.invariant.0, all) in
+    c.loop-s.invariant.1 ∙ ap (count_below (λ x. ltb 0 (get_or c.args.sizes.now x 0))) e

@@ -28,14 +28,6 @@ pub bounds-sizes-p : goal.bounds-sizes-p
 bounds-sizes-p c =
     omega arith
 
-pub overflow_add-p : goal.overflow_add-p
-overflow_add-p c =
-    omega arith
-
-pub loop-p-smaller : goal.loop-p-smaller
-loop-p-smaller c =
-    omega arith
-
 pub loop-p-preserved : goal.loop-p-preserved
 loop-p-preserved c = (
   measuring_next c.loop-p.invariant.0 c.loop-p-test.true c.measure-m.ensures.through c.measure-m.ensures.size_is,

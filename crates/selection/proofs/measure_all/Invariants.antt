@@ -1,5 +1,4 @@
 -- `selection::measure_all` meets its contract. Assumes nothing.
-use Prim.Native.Nat.{◌-◌}
 use mathlib.Core.Path.{◌≡◌}
 use lib.ListN.{length}
 use Rattle.oracle.specs.Oracle.{oracle_of}
@@ -10,7 +9,3 @@ abbrev pub invariant-loop-p : goal.invariant-loop-p
 invariant-loop-p l =
     Measuring (oracle_of l.o) l.block l.sizes l.marks l.order l.tail l.p × (length l.sizes ≡ length l.initial.sizes) ×
     (length l.order ≡ length l.initial.order) × (length l.marks ≡ length l.initial.marks)
-
-abbrev pub decreases-loop-p : goal.decreases-loop-p
-decreases-loop-p l =
-    l.n - l.p

@@ -26,10 +26,6 @@ returns-then-holds c =
     (held_in (oracle_of o) second block (c.requires.0.finite_at _ (c.requires.3 _ c.loop-i-test.true)) c.place_at-p.ensures c.point_at-x.ensures
     c.holds.ensures) c.if-holds.true
 
-pub loop-i-smaller : goal.loop-i-smaller
-loop-i-smaller c =
-    omega arith
-
 pub loop-i-preserved : goal.loop-i-preserved
 loop-i-preserved c =
     let o = c.args.o in

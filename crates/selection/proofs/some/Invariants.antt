@@ -1,5 +1,4 @@
 -- `selection::some` meets its contract. Assumes nothing.
-use Prim.Native.Nat.{◌-◌}
 use Rattle.oracle.specs.Oracle.{oracle_of}
 use Rattle.selection.specs.Picked.{holds_at}
 use Rattle.selection.proofs.Loops.{Looking}
@@ -8,7 +7,3 @@ use Rattle.selection.proofs.some.Given as goal
 abbrev pub invariant-loop-i : goal.invariant-loop-i
 invariant-loop-i l =
     Looking (holds_at (oracle_of l.o) l.second l.block) l.order l.from l.i
-
-abbrev pub decreases-loop-i : goal.decreases-loop-i
-decreases-loop-i l =
-    l.to - l.i

@@ -16,4 +16,4 @@ loop-i-preserved c =
 
 pub returns : goal.returns
 returns c =
-    record { within = c.loop-i.invariant.0; before = c.loop-i.invariant.1.before; here = λ h. absurd (omega (arith, c.loop-i-test.false, h)) }
+    record { within = omega arith; before = λ j h. c.loop-i.invariant.1.before j (omega (arith, c.loop-i-test.false)); here = λ h. absurd (omega (arith, h)) }

@@ -1,4 +1,4 @@
-use mathlib.Core.Path.{refl, sym, ◌∙◌}
+use mathlib.Core.Path.{◌≡◌, refl, sym, ◌∙◌}
 use Rattle.text.proofs.Readings.{digits_none, digits_more, too_large}
 use native.Mathlib.Omega.{arith}
 use Rattle.text.proofs.digits.Goals as goal
@@ -43,10 +43,11 @@ loop-i-preserved c = (
 
 pub returns : goal.returns
 returns c =
+    let n : c.loop-i.i ≡ c.args.n = omega (arith, c.loop-i.invariant.0, c.loop-i-test.false) in
     record {
       count = _;
-      within = c.loop-i.invariant.0;
+      within = omega arith;
       past_is = refl;
-      digits = c.loop-i.invariant.1;
-      ended = λ h. absurd (omega (arith, c.loop-i-test.false, h));
+      digits = rw n at c.loop-i.invariant.1;
+      ended = λ h. absurd (omega (arith, h));
     }

@@ -8,14 +8,15 @@ pub number_at-requires : goal.number_at-requires
 number_at-requires c =
     omega (arith, c.requires, c.blanks_from-k.ensures.within)
 
-pub returns-in_default : goal.returns-in_default
-returns-in_default c =
-    no_column c.blanks_from-k.ensures (rw c.in_default.is at c.number_at.ensures)
+pub returns-in_err-v : goal.returns-in_err-v
+returns-in_err-v c =
+    rw c.from_residual.ensures (
+    no_column c.blanks_from-k.ensures (rw c.in_err-v.was at c.number_at.ensures))
 
 pub returns-then-past-at : goal.returns-then-past-at
 returns-then-past-at c =
-    column_short c.blanks_from-k.ensures (rw c.in-Value.is at c.number_at.ensures) c.if-past-at.true
+    column_short c.blanks_from-k.ensures (rw c.in_ok-v.was at c.number_at.ensures) c.if-past-at.true
 
 pub returns : goal.returns
 returns c =
-    column_right c.blanks_from-k.ensures (rw c.in-Value.is at c.number_at.ensures) c.requires c.if-past-at.false
+    column_right c.blanks_from-k.ensures (rw c.in_ok-v.was at c.number_at.ensures) c.requires c.if-past-at.false

@@ -1,7 +1,6 @@
 -- `arrival::draft::put_draft` meets its contract.
 -- Assumes nothing.
 use mathlib.Core.Path.{◌≡◌}
-use Prim.Native.Nat.{◌-◌}
 use lib.ListN.{length}
 use Rattle.arrival.specs.Draft.{draft_record}
 use Rattle.arrival.proofs.Drafting.{Drafting}
@@ -11,7 +10,3 @@ abbrev pub invariant-loop-p : goal.invariant-loop-p
 invariant-loop-p l =
     Drafting (draft_record l.vertex l.starts l.sizes l.keys l.ranks l.opposite l.message l.from) l.k l.draft l.p ×
     (length l.draft ≡ length l.initial.draft)
-
-abbrev pub decreases-loop-p : goal.decreases-loop-p
-decreases-loop-p l =
-    l.k - l.p

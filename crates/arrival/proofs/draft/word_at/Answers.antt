@@ -10,4 +10,4 @@ returns-in_default c =
 
 pub returns : goal.returns
 returns c =
-    word_value c.args.message.now c.args.at c.requires (sym c.read_coordinate.ensures ∙ c.in-Value.is)
+    word_value c.args.message.now c.args.at c.requires (sym c.read_coordinate.ensures ∙ c.in-Some.is)

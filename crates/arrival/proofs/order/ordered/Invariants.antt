@@ -1,6 +1,5 @@
 -- `arrival::order::ordered` meets its contract.
 -- Assumes nothing.
-use Prim.Native.Nat.{◌-◌}
 use Rattle.arrival.specs.Sides.{order_at}
 use Rattle.arrival.proofs.Steps.{Passing}
 use Rattle.arrival.proofs.order.ordered.Given as goal
@@ -8,7 +7,3 @@ use Rattle.arrival.proofs.order.ordered.Given as goal
 abbrev pub invariant-loop-i : goal.invariant-loop-i
 invariant-loop-i l =
     Passing (order_at l.serial l.starts) l.i
-
-abbrev pub decreases-loop-i : goal.decreases-loop-i
-decreases-loop-i l =
-    l.k - l.i

@@ -22,7 +22,7 @@ returns-in_default c =
 
 pub loop-i-preserved : goal.loop-i-preserved
 loop-i-preserved c =
-    let new = told_new c.gap_of.ensures c.in-Below.is in
+    let new = told_new c.gap_of.ensures c.in-Some.is in
     (new.1, passing_more c.loop-i.invariant.1 new.0)
 
 pub returns : goal.returns

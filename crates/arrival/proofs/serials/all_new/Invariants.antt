@@ -1,6 +1,6 @@
 -- `arrival::serials::all_new` meets its contract.
 -- Assumes nothing.
-use Prim.Native.Nat.{◌-◌, ◌≤◌}
+use Prim.Native.Nat.{◌≤◌}
 use lib.ListN.{get_or}
 use Rattle.arrival.specs.Draft.{is_new}
 use Rattle.arrival.proofs.Steps.{Passing}
@@ -9,7 +9,3 @@ use Rattle.arrival.proofs.serials.all_new.Given as goal
 abbrev pub invariant-loop-i : goal.invariant-loop-i
 invariant-loop-i l =
     (l.near ≤ l.n) × Passing (λ j. is_new l.block (get_or l.serial j 0)) l.i
-
-abbrev pub decreases-loop-i : goal.decreases-loop-i
-decreases-loop-i l =
-    l.k - l.i

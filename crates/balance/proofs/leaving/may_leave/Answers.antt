@@ -19,25 +19,25 @@ volume_leaves-requires c =
       block_in_bounds_3 = (a.firsts_size, omega (arith, volume, a.colours_size));
     }
 
-pub returns-in-Volume : goal.returns-in-Volume
-returns-in-Volume c =
+pub returns-in-Ok : goal.returns-in-Ok
+returns-in-Ok c =
     let block = c.args.block.now in
     let place = c.args.place.0 in
     record {
       answer = leaves_yes block place c.requires.block_value.1
-          ((volume_departs_told _ block place _ _ _ _ _ c.volume_leaves.ensures.answer c.in-Volume.is).asked ∙ by_rack block place c.rack.ensures);
+          ((volume_departs_told _ block place _ _ _ _ _ c.volume_leaves.ensures.answer c.in-Ok.is).asked ∙ by_rack block place c.rack.ensures);
       again = λ e. absurd (true≢false e);
     }
 
-pub returns-in-Refused : goal.returns-in-Refused
-returns-in-Refused c =
+pub returns-in-Err : goal.returns-in-Err
+returns-in-Err c =
     let block = c.args.block.now in
     let place = c.args.place.0 in
     let a = c.requires.asking in
-    let f = forgotten_told _ _ c.volume_leaves.ensures.clear c.in-Refused.is in
+    let f = forgotten_told _ _ c.volume_leaves.ensures.clear c.in-Err.is in
     record {
       answer = leaves_no block place c.requires.block_value.1 _
-          (volume_refused_told _ block place _ _ _ _ _ c.volume_leaves.ensures.answer c.in-Refused.is ∙ by_rack block place c.rack.ensures);
+          (volume_refused_told _ block place _ _ _ _ _ c.volume_leaves.ensures.answer c.in-Err.is ∙ by_rack block place c.rack.ensures);
       again = λ e. record {
         marks_size = search rules;
         unmarked = f.0;

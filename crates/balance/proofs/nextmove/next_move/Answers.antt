@@ -13,7 +13,7 @@ returns-then-not-oracle_right c =
     let scratch = c.args.scratch.now in
     let o = c.args.o in
     balanced c.refused-then-not-oracle_right.ensures.0 c.refused-then-not-oracle_right.ensures.1
-    (refused_oracle viewers mesh scratch (oracle_of o) (mesh_yes viewers mesh scratch c.in-Served.is c.mesh_asked.ensures.0)
+    (refused_oracle viewers mesh scratch (oracle_of o) (mesh_yes viewers mesh scratch c.in-Ok.is c.mesh_asked.ensures.0)
     (said_no c.oracle_right.ensures c.if-not-oracle_right.true) c.mesh_asked.ensures.1)
 
 pub next_of-requires : goal.next_of-requires
@@ -21,16 +21,16 @@ next_of-requires c =
     let viewers = c.args.viewers in
     let mesh = c.args.mesh.now in
     let scratch = c.args.scratch.now in
-    parts_passed viewers mesh scratch (mesh_yes viewers mesh scratch c.in-Served.is c.mesh_asked.ensures.0)
+    parts_passed viewers mesh scratch (mesh_yes viewers mesh scratch c.in-Ok.is c.mesh_asked.ensures.0)
 
-pub returns-in-Refused : goal.returns-in-Refused
-returns-in-Refused c =
+pub returns-in-Err : goal.returns-in-Err
+returns-in-Err c =
     let viewers = c.args.viewers in
     let mesh = c.args.mesh.now in
     let scratch = c.args.scratch.now in
     let o = c.args.o in
     balanced c.refused.ensures.0 c.refused.ensures.1
-    (refused_mesh viewers mesh scratch (oracle_of o) (mesh_no viewers mesh scratch c.in-Refused.is c.mesh_asked.ensures.0) c.mesh_asked.ensures.1)
+    (refused_mesh viewers mesh scratch (oracle_of o) (mesh_no viewers mesh scratch c.in-Err.is c.mesh_asked.ensures.0) c.mesh_asked.ensures.1)
 
 pub returns-else-not-oracle_right : goal.returns-else-not-oracle_right
 returns-else-not-oracle_right c =
@@ -39,5 +39,5 @@ returns-else-not-oracle_right c =
     let scratch = c.args.scratch.now in
     let o = c.args.o in
     balanced refl (not_refused c.next_of.result c.next_of.ensures)
-    (gives_move viewers mesh scratch (oracle_of o) (mesh_yes viewers mesh scratch c.in-Served.is c.mesh_asked.ensures.0)
+    (gives_move viewers mesh scratch (oracle_of o) (mesh_yes viewers mesh scratch c.in-Ok.is c.mesh_asked.ensures.0)
     (said_yes c.oracle_right.ensures c.if-not-oracle_right.false) c.next_of.ensures c.mesh_asked.ensures.1)

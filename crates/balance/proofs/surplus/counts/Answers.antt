@@ -18,14 +18,6 @@ pub bounds-c-i : goal.bounds-c-i
 bounds-c-i c =
     omega arith
 
-pub overflow_add-i : goal.overflow_add-i
-overflow_add-i c =
-    omega arith
-
-pub loop-i-smaller : goal.loop-i-smaller
-loop-i-smaller c =
-    omega arith
-
 pub loop-i-preserved : goal.loop-i-preserved
 loop-i-preserved c =
     filling_next c.loop-i.invariant c.requires.few c.loop-i-test.true c.count_part.ensures.0

@@ -30,14 +30,6 @@ pub bounds-s-i : goal.bounds-s-i
 bounds-s-i c =
     omega arith
 
-pub overflow_add-i : goal.overflow_add-i
-overflow_add-i c =
-    omega arith
-
-pub loop-i-smaller : goal.loop-i-smaller
-loop-i-smaller c =
-    omega arith
-
 pub loop-i-preserved : goal.loop-i-preserved
 loop-i-preserved c =
     filling_next c.loop-i.invariant c.requires.0 c.loop-i-test.true (to_z-of_z w32 c.surplus_of.result (search rules) ∙ c.surplus_of.ensures)

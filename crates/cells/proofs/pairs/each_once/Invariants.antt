@@ -3,7 +3,7 @@
 use mathlib.Core.Path.{◌≡◌}
 use mathlib.Core.Bool.{true}
 use mathlib.Core.List.{◌∷◌}
-use Prim.Native.Nat.{ℕ, ◌-◌, ◌≤◌, ◌<◌}
+use Prim.Native.Nat.{ℕ, ◌≤◌, ◌<◌}
 use lib.ListN.{length, get_or}
 use Rattle.model.specs.Lists.{distinct}
 use Rattle.model.specs.Image.{column}
@@ -14,7 +14,3 @@ abbrev pub invariant-loop-a : goal.invariant-loop-a
 invariant-loop-a l =
     (l.a ≤ l.count) × (length l.colours ≡ l.count) × ((b : ℕ) → get_or l.colours b 0 ≤ l.a)
     × ((k : ℕ) → k < l.a → distinct (k ∷ ends_of (column l.block 1) (column l.block 2) l.numbers (get_or l.firsts k 0)) ≡ true)
-
-abbrev pub decreases-loop-a : goal.decreases-loop-a
-decreases-loop-a l =
-    l.count - l.a

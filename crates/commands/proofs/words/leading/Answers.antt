@@ -27,4 +27,4 @@ loop-i-preserved c =
 
 pub returns : goal.returns
 returns c =
-    record { count = sym (leading_end (belongs c.args.kind) c.args.text.now c.loop-i.i (omega arith)) ∙ c.loop-i.invariant.1; within = omega arith }
+    record { count = omega (arith, leading_end (belongs c.args.kind) c.args.text.now c.loop-i.i (omega arith), c.loop-i.invariant.1); within = omega arith }

@@ -20,20 +20,12 @@ pub digit-requires : goal.digit-requires
 digit-requires c =
     sym c.is_digit.ensures ∙ c.if-not-is_digit.false
 
-pub overflow_add-v : goal.overflow_add-v
-overflow_add-v c =
-    omega arith
-
 pub returns-then-v-ge4294967296 : goal.returns-then-v-ge4294967296
 returns-then-v-ge4294967296 c =
     let text = c.args.text.now in
     sym
     (digits_too_many text c.loop-i.n c.loop-i.i (10 * c.loop-i.n + c.digit.result) (omega arith) (sym c.is_digit.ensures ∙ c.if-not-is_digit.false)
     (omega (arith, c.digit.ensures.0)) (omega arith)) ∙ c.loop-i.invariant.2
-
-pub loop-i-smaller : goal.loop-i-smaller
-loop-i-smaller c =
-    omega arith
 
 pub loop-i-preserved : goal.loop-i-preserved
 loop-i-preserved c =

@@ -4,10 +4,11 @@ use mathlib.Core.Path.{refl}
 use Rattle.codec.proofs.Taking.{faced_took, faced_none}
 use Rattle.inbox.proofs.faces.read_dart.Goals as goal
 
-pub returns-in_default : goal.returns-in_default
-returns-in_default c =
-    record { said = (faced_none c.in_default.is c.read_dart.ensures, refl, refl) }
+pub returns-in_err-v : goal.returns-in_err-v
+returns-in_err-v c =
+    rw c.from_residual.ensures (
+    record { said = (faced_none c.in_err-v.was c.read_dart.ensures, refl, refl) })
 
 pub returns : goal.returns
 returns c =
-    record { said = (_, faced_took c.in-Dart.is c.read_dart.ensures, refl, refl) }
+    record { said = (_, faced_took c.in_ok-v.was c.read_dart.ensures, refl, refl) }

@@ -7,13 +7,14 @@ pub loop-i-init : goal.loop-i-init
 loop-i-init c =
     darts_start c.requires.0 c.requires.2
 
-pub returns-in_default : goal.returns-in_default
-returns-in_default c =
-    darts_stop c.requires.1 c.loop-i.invariant c.in_default.is (omega (arith, c.loop-i-test.true)) c.read_dart.ensures
+pub returns-in_err-x : goal.returns-in_err-x
+returns-in_err-x c =
+    rw c.from_residual.ensures (
+    darts_stop c.requires.1 c.loop-i.invariant c.in_err-x.was (omega (arith, c.loop-i-test.true)) c.read_dart.ensures)
 
 pub loop-i-preserved : goal.loop-i-preserved
 loop-i-preserved c =
-    darts_more c.requires.1 c.loop-i.invariant c.in-Value.is (omega (arith, c.loop-i-test.true)) c.read_dart.ensures
+    darts_more c.requires.1 c.loop-i.invariant c.in_ok-x.was (omega (arith, c.loop-i-test.true)) c.read_dart.ensures
 
 pub returns : goal.returns
 returns c =

@@ -8,25 +8,27 @@ use Rattle.codec.proofs.Taking.{took_group}
 use Rattle.inbox.proofs.Outlining.{counted_bad, counted_short, counted_good}
 use Rattle.inbox.proofs.message.counted_part.Goals as goal
 
-pub returns-in_default : goal.returns-in_default
-returns-in_default c =
+pub returns-in_err-count : goal.returns-in_err-count
+returns-in_err-count c =
+    rw c.from_residual.ensures (
     let s = c.args.s.now in
     let at = c.args.at in
     let part = c.args.part in
-    λ fs z. counted_bad (entry part fs) s at (bad_at group _ _ (sym c.in_default.is ∙ c.read_group.ensures))
+    λ fs z. counted_bad (entry part fs) s at (bad_at group _ _ (sym c.in_err-count.was ∙ c.read_group.ensures)))
 
 pub pass_entries-requires : goal.pass_entries-requires
 pass_entries-requires c =
-    ((took_group (sym c.in-Value.is ∙ c.read_group.ensures)).within, c.requires)
+    ((took_group (sym c.in_ok-count.was ∙ c.read_group.ensures)).within, c.requires)
 
-pub returns-in_default-pass_entries : goal.returns-in_default-pass_entries
-returns-in_default-pass_entries c =
+pub returns-in_err-n : goal.returns-in_err-n
+returns-in_err-n c =
+    rw c.from_residual-in_err-n.ensures (
     let part = c.args.part in
-    λ fs z. counted_short (entry part fs) (took_group (sym c.in-Value.is ∙ c.read_group.ensures)) c.in_default-pass_entries.is
-    (c.pass_entries.ensures fs z)
+    λ fs z. counted_short (entry part fs) (took_group (sym c.in_ok-count.was ∙ c.read_group.ensures)) c.in_err-n.was
+    (c.pass_entries.ensures fs z))
 
 pub returns : goal.returns
 returns c =
     let part = c.args.part in
-    λ fs z. counted_good (entry part fs) (took_group (sym c.in-Value.is ∙ c.read_group.ensures)) c.in-Value-pass_entries.is
+    λ fs z. counted_good (entry part fs) (took_group (sym c.in_ok-count.was ∙ c.read_group.ensures)) c.in_ok-n.was
     (c.pass_entries.ensures fs z)

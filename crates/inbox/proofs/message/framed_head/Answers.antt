@@ -6,37 +6,38 @@ use Rattle.inbox.proofs.Outlining.{head_missing, body_within, head_wrong, from_n
 use native.Mathlib.Omega.{arith}
 use Rattle.inbox.proofs.message.framed_head.Goals as goal
 
-pub returns-in_default : goal.returns-in_default
-returns-in_default c =
+pub returns-in_err-head : goal.returns-in_err-head
+returns-in_err-head c =
+    rw c.from_residual.ensures (
     let s = c.args.s.now in
-    head_missing (head_says s (sym c.in_default.is ∙ c.read_head.ensures))
+    head_missing (head_says s (sym c.in_err-head.was ∙ c.read_head.ensures)))
 
 pub overflow_sub-rest : goal.overflow_sub-rest
 overflow_sub-rest c =
     let s = c.args.s.now in
-    let four = head_says s (sym c.in-Head.is ∙ c.read_head.ensures) in
+    let four = head_says s (sym c.in_ok-head.was ∙ c.read_head.ensures) in
     body_within four
 
 pub returns-then-rest-head : goal.returns-then-rest-head
 returns-then-rest-head c =
     let s = c.args.s.now in
-    let four = head_says s (sym c.in-Head.is ∙ c.read_head.ensures) in
+    let four = head_says s (sym c.in_ok-head.was ∙ c.read_head.ensures) in
     head_wrong four c.if-rest-head.true
 
 pub returns-then-head-ge-BLOCKS : goal.returns-then-head-ge-BLOCKS
 returns-then-head-ge-BLOCKS c =
     let s = c.args.s.now in
-    let four = head_says s (sym c.in-Head.is ∙ c.read_head.ensures) in
+    let four = head_says s (sym c.in_ok-head.was ∙ c.read_head.ensures) in
     from_none four (omega (arith, c.if-head-ge-BLOCKS.true))
 
 pub returns-then-head-ge-BLOCKS-2 : goal.returns-then-head-ge-BLOCKS-2
 returns-then-head-ge-BLOCKS-2 c =
     let s = c.args.s.now in
-    let four = head_says s (sym c.in-Head.is ∙ c.read_head.ensures) in
+    let four = head_says s (sym c.in_ok-head.was ∙ c.read_head.ensures) in
     to_none four (omega (arith, c.if-head-ge-BLOCKS.false)) (omega (arith, c.if-head-ge-BLOCKS-2.true))
 
 pub returns : goal.returns
 returns c =
     let s = c.args.s.now in
-    let four = head_says s (sym c.in-Head.is ∙ c.read_head.ensures) in
+    let four = head_says s (sym c.in_ok-head.was ∙ c.read_head.ensures) in
     head_framed four c.if-rest-head.false (omega (arith, c.if-head-ge-BLOCKS.false)) (omega (arith, c.if-head-ge-BLOCKS-2.false))

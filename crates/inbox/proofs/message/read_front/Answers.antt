@@ -8,33 +8,36 @@ use Rattle.inbox.proofs.Outlining.{front_bad, no_points, took_points, no_count, 
 use native.Mathlib.Omega.{arith}
 use Rattle.inbox.proofs.message.read_front.Goals as goal
 
-pub returns-in_default : goal.returns-in_default
-returns-in_default c =
-    front_bad c.requires.1 (no_points c.requires.0 c.in_default.is c.read_points.ensures)
+pub returns-in_err-vertices : goal.returns-in_err-vertices
+returns-in_err-vertices c =
+    rw c.from_residual.ensures (
+    front_bad c.requires.1 (no_points c.requires.0 c.in_err-vertices.was c.read_points.ensures))
 
 pub overflow_mul-vertices : goal.overflow_mul-vertices
 overflow_mul-vertices c =
-    omega (arith, (took_points c.in-Value.is c.read_points.ensures).within)
+    omega (arith, (took_points c.in_ok-vertices.was c.read_points.ensures).within)
 
 pub overflow_add-points : goal.overflow_add-points
 overflow_add-points c =
-    omega (arith, (took_points c.in-Value.is c.read_points.ensures).within)
+    omega (arith, (took_points c.in_ok-vertices.was c.read_points.ensures).within)
 
-pub returns-in_default-read_group : goal.returns-in_default-read_group
-returns-in_default-read_group c =
+pub returns-in_err-count : goal.returns-in_err-count
+returns-in_err-count c =
+    rw c.from_residual-in_err-count.ensures (
     front_bad c.requires.1
-    (no_count _ _ c.requires.0 (took_points c.in-Value.is c.read_points.ensures) (bad_at group _ _ (sym c.in_default-read_group.is ∙ c.read_group.ensures)))
+    (no_count _ _ c.requires.0 (took_points c.in_ok-vertices.was c.read_points.ensures) (bad_at group _ _ (sym c.in_err-count.was ∙ c.read_group.ensures))))
 
 pub read_faces-requires : goal.read_faces-requires
 read_faces-requires c =
-    ((took_group (sym c.in-Value-read_group.is ∙ c.read_group.ensures)).within, c.requires.1)
+    ((took_group (sym c.in_ok-count.was ∙ c.read_group.ensures)).within, c.requires.1)
 
-pub returns-in_default-read_faces : goal.returns-in_default-read_faces
-returns-in_default-read_faces c =
-    no_faces _ _ c.requires.0 (took_points c.in-Value.is c.read_points.ensures)
-    (took_group (sym c.in-Value-read_group.is ∙ c.read_group.ensures)) c.read_faces.ensures c.in_default-read_faces.is
+pub returns-in_err-faces : goal.returns-in_err-faces
+returns-in_err-faces c =
+    rw c.from_residual-in_err-faces.ensures (
+    no_faces _ _ c.requires.0 (took_points c.in_ok-vertices.was c.read_points.ensures)
+    (took_group (sym c.in_ok-count.was ∙ c.read_group.ensures)) c.read_faces.ensures c.in_err-faces.was)
 
 pub returns : goal.returns
 returns c =
-    front_read _ _ c.requires.0 (took_points c.in-Value.is c.read_points.ensures)
-    (took_group (sym c.in-Value-read_group.is ∙ c.read_group.ensures)) c.read_faces.ensures c.in-Faces.is
+    front_read _ _ c.requires.0 (took_points c.in_ok-vertices.was c.read_points.ensures)
+    (took_group (sym c.in_ok-count.was ∙ c.read_group.ensures)) c.read_faces.ensures c.in_ok-faces.was

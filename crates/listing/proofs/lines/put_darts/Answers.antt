@@ -1,4 +1,3 @@
-use Rattle.groups.proofs.Writing.{stored_length}
 use Rattle.model.specs.Listing.{dart_line}
 use Rattle.savefile.proofs.Pieces.{place_none, place_more, place_all, in_pieces}
 use Rattle.listing.proofs.LineTexts.{dart_text, lines_short, line_room}
@@ -20,10 +19,6 @@ put_dart-past-requires c =
 pub loop-i-preserved : goal.loop-i-preserved
 loop-i-preserved c =
     place_more c.loop-i.invariant c.loop-i-test.true c.put_dart-past.ensures
-
-pub shape_of-out : goal.shape_of-out
-shape_of-out c =
-    stored_length c.loop-i.invariant.stored
 
 pub returns : goal.returns
 returns c =

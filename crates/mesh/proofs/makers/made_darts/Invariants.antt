@@ -1,6 +1,5 @@
 -- `mesh::makers::made_darts` meets its contract.
 -- Assumes nothing.
-use Prim.Native.Nat.{◌-◌}
 use Rattle.sound.proofs.Passes.{Going}
 use Rattle.mesh.specs.Parts.{made_darts}
 use Rattle.mesh.proofs.makers.made_darts.Given as goal
@@ -8,7 +7,3 @@ use Rattle.mesh.proofs.makers.made_darts.Given as goal
 abbrev pub invariant-loop-p : goal.invariant-loop-p
 invariant-loop-p l =
     Going (made_darts l.mesh l.block) l.n l.p
-
-abbrev pub decreases-loop-p : goal.decreases-loop-p
-decreases-loop-p l =
-    l.n - l.p

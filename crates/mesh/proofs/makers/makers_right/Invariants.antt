@@ -1,6 +1,5 @@
 -- `mesh::makers::makers_right` meets its contract.
 -- Assumes nothing.
-use Prim.Native.Nat.{◌-◌}
 use Rattle.sound.proofs.Passes.{Going}
 use Rattle.mesh.specs.Parts.{part, made_block}
 use Rattle.mesh.proofs.makers.makers_right.Given as goal
@@ -8,7 +7,3 @@ use Rattle.mesh.proofs.makers.makers_right.Given as goal
 abbrev pub invariant-loop-i : goal.invariant-loop-i
 invariant-loop-i l =
     Going (λ j. made_block l.mesh (part l.mesh j)) l.k l.i
-
-abbrev pub decreases-loop-i : goal.decreases-loop-i
-decreases-loop-i l =
-    l.k - l.i

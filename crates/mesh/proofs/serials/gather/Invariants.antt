@@ -1,6 +1,5 @@
 -- `mesh::serials::gather` meets its contract.
 -- Assumes nothing.
-use Prim.Native.Nat.{◌-◌}
 use Rattle.mesh.proofs.Gathers.{Gathering}
 use Rattle.mesh.specs.Parts.{gathered}
 use Rattle.mesh.proofs.serials.gather.Given as goal
@@ -8,7 +7,3 @@ use Rattle.mesh.proofs.serials.gather.Given as goal
 abbrev pub invariant-loop-i : goal.invariant-loop-i
 invariant-loop-i l =
     Gathering (gathered l.mesh) l.mesh l.out l.c l.i
-
-abbrev pub decreases-loop-i : goal.decreases-loop-i
-decreases-loop-i l =
-    l.k - l.i

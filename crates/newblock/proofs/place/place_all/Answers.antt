@@ -19,10 +19,6 @@ pub loop-i-preserved : goal.loop-i-preserved
 loop-i-preserved c =
     placing_more c.loop-i.invariant (omega (arith, c.requires.fits)) c.loop-i-test.true c.resolve_dart.ensures
 
-pub shape_of-block : goal.shape_of-block
-shape_of-block c =
-    placing_length c.loop-i.invariant (omega (arith, c.requires.fits))
-
 pub returns : goal.returns
 returns c =
     placing_ends c.loop-i.invariant (omega (arith, c.requires.fits)) c.loop-i-test.false ∙ resolved_is c.requires

@@ -18,10 +18,10 @@ returns-then-stands_at-3 c =
     let found = c.stands_at-3.ensures c.if-stands_at-3.true in
     place_is _ _ _ c.requires.1 _ found.0 found.1
 
-pub returns-in-At : goal.returns-in-At
-returns-in-At c =
-    place_found _ _ _ c.requires.1 c.place_of.ensures c.in-At.is
+pub returns-in-Some : goal.returns-in-Some
+returns-in-Some c =
+    place_found _ _ _ c.requires.1 c.place_of.ensures c.in-Some.is
 
-pub returns-in-Nothing : goal.returns-in-Nothing
-returns-in-Nothing c =
-    no_place _ _ _ c.place_of.ensures c.in-Nothing.is
+pub returns-in-None : goal.returns-in-None
+returns-in-None c =
+    no_place _ _ _ c.place_of.ensures c.in-None.is

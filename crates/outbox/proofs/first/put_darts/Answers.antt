@@ -38,10 +38,6 @@ put_dart-at-requires c =
       ),
     )
 
-pub loop-k-smaller : goal.loop-k-smaller
-loop-k-smaller c =
-    omega arith
-
 pub loop-k-preserved : goal.loop-k-preserved
 loop-k-preserved c =
     let block = c.args.block.now in

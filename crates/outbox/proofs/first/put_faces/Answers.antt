@@ -36,10 +36,6 @@ put_face-at-requires c =
       );
     }
 
-pub loop-f-smaller : goal.loop-f-smaller
-loop-f-smaller c =
-    omega arith
-
 pub loop-f-preserved : goal.loop-f-preserved
 loop-f-preserved c =
     let block = c.args.block.now in

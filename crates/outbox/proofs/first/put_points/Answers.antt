@@ -20,10 +20,6 @@ put_point-at-requires c =
       omega (arith, running_space c.loop-k.invariant c.loop-k-test.true, point_put_length block firsts c.loop-k.k),
     )
 
-pub loop-k-smaller : goal.loop-k-smaller
-loop-k-smaller c =
-    omega arith
-
 pub loop-k-preserved : goal.loop-k-preserved
 loop-k-preserved c =
     let block = c.args.block.now in

@@ -1,6 +1,5 @@
 -- `outbox::first::put_points` meets its contract. The loop's invariant: the points before k are put.
 -- The measure is what is left of the vertices. Assumes nothing.
-use Prim.Native.Nat.{◌-◌}
 use Rattle.outbox.specs.Bytes.{point_put}
 use Rattle.outbox.proofs.Running.{Running}
 use Rattle.outbox.proofs.first.put_points.Given as goal
@@ -8,7 +7,3 @@ use Rattle.outbox.proofs.first.put_points.Given as goal
 abbrev pub invariant-loop-k : goal.invariant-loop-k
 invariant-loop-k l =
     Running (point_put l.block l.firsts) l.count l.initial.out l.from l.k l.out l.at
-
-abbrev pub decreases-loop-k : goal.decreases-loop-k
-decreases-loop-k l =
-    l.count - l.k

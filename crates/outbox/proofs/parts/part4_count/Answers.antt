@@ -1,39 +1,11 @@
 use Rattle.answers.proofs.Questions.{said_no, said_yes}
-use Rattle.outbox.proofs.Running.{tallied_start, tallied_few, tallied_end, tallied_step, tallied_skip}
+use Rattle.outbox.proofs.Running.{tallied_start, tallied_few, tallied_step, tallied_skip}
 use native.Mathlib.Omega.{arith}
 use Rattle.outbox.proofs.parts.part4_count.Goals as goal
 
 pub loop-f-init : goal.loop-f-init
 loop-f-init c =
     tallied_start _ _
-
-pub offset_bounds-starts-f : goal.offset_bounds-starts-f
-offset_bounds-starts-f c =
-    omega arith
-
-pub bounds-starts-f : goal.bounds-starts-f
-bounds-starts-f c =
-    omega arith
-
-pub offset_bounds-order-i : goal.offset_bounds-order-i
-offset_bounds-order-i c =
-    omega (arith, c.requires.1.index_small c.loop-f.f c.loop-f-test.true)
-
-pub bounds-order-i : goal.bounds-order-i
-bounds-order-i c =
-    omega (arith, c.requires.1.order_size c.loop-f.f c.loop-f-test.true)
-
-pub overflow_add-f : goal.overflow_add-f
-overflow_add-f c =
-    omega arith
-
-pub critical_beside-requires : goal.critical_beside-requires
-critical_beside-requires c =
-    (omega (arith, c.requires.0, c.requires.1.place_below c.loop-f.f c.loop-f-test.true), c.requires.2)
-
-pub loop-f-smaller-then-not-critical_beside : goal.loop-f-smaller-then-not-critical_beside
-loop-f-smaller-then-not-critical_beside c =
-    omega arith
 
 pub loop-f-preserved-then-not-critical_beside : goal.loop-f-preserved-then-not-critical_beside
 loop-f-preserved-then-not-critical_beside c =
@@ -43,14 +15,6 @@ pub overflow_add-entries : goal.overflow_add-entries
 overflow_add-entries c =
     omega (arith, tallied_few c.loop-f.invariant, c.loop-f-test.true, c.requires.1.few)
 
-pub loop-f-smaller : goal.loop-f-smaller
-loop-f-smaller c =
-    omega arith
-
 pub loop-f-preserved : goal.loop-f-preserved
 loop-f-preserved c =
     tallied_step c.loop-f.invariant c.loop-f-test.true (said_yes c.critical_beside.ensures c.if-not-critical_beside.false)
-
-pub returns : goal.returns
-returns c =
-    tallied_end c.loop-f.invariant c.loop-f-test.false

@@ -1,8 +1,7 @@
 use mathlib.Core.Path.{ap}
-use Prim.Native.Nat.{◌+◌}
 use lib.ListN.{length}
 use Rattle.codec.proofs.EntryLaws.{stored_as}
-use Rattle.outbox.proofs.Running.{running_start, running_size, running_end, running_space, running_step}
+use Rattle.outbox.proofs.Running.{running_start, running_space, running_step}
 use Rattle.outbox.proofs.BytesLaws.{label_is}
 use native.Mathlib.Omega.{arith}
 use Rattle.outbox.proofs.parts.put_labels.Goals as goal
@@ -10,10 +9,6 @@ use Rattle.outbox.proofs.parts.put_labels.Goals as goal
 pub loop-k-init : goal.loop-k-init
 loop-k-init c =
     running_start _ _ _ _ c.requires.size_bound
-
-pub field-requires : goal.field-requires
-field-requires c =
-    (c.requires.darts_listed.held (c.args.start.0 + c.loop-k.k) (omega (arith, c.loop-k-test.true)), omega arith)
 
 pub put_label-at-requires : goal.put_label-at-requires
 put_label-at-requires c =
@@ -23,10 +18,6 @@ put_label-at-requires c =
     omega
     (arith, ap length (label_is block order first c.loop-k.k c.field.result c.field.ensures), running_space c.loop-k.invariant c.loop-k-test.true)
 
-pub loop-k-smaller : goal.loop-k-smaller
-loop-k-smaller c =
-    omega arith
-
 pub loop-k-preserved : goal.loop-k-preserved
 loop-k-preserved c =
     let block = c.args.block.now in
@@ -34,11 +25,3 @@ loop-k-preserved c =
     let first = c.args.start.0 in
     running_step c.loop-k.invariant c.loop-k-test.true
     (stored_as (label_is block order first c.loop-k.k c.field.result c.field.ensures) c.put_label-at.ensures)
-
-pub shape_of-out : goal.shape_of-out
-shape_of-out c =
-    running_size c.loop-k.invariant
-
-pub returns : goal.returns
-returns c =
-    running_end c.loop-k.invariant (omega (arith, c.loop-k-test.false))

@@ -1,6 +1,5 @@
 -- `outbox::parts::put_labels` meets its contract. The loop's invariant: the labels before k are put.
 -- The measure is what is left of the face. Assumes nothing.
-use Prim.Native.Nat.{◌-◌}
 use Rattle.outbox.specs.Bytes.{label_put}
 use Rattle.outbox.proofs.Running.{Running}
 use Rattle.outbox.proofs.parts.put_labels.Given as goal
@@ -8,7 +7,3 @@ use Rattle.outbox.proofs.parts.put_labels.Given as goal
 abbrev pub invariant-loop-k : goal.invariant-loop-k
 invariant-loop-k l =
     Running (label_put l.block l.order l.first) l.size l.initial.out l.from l.k l.out l.at
-
-abbrev pub decreases-loop-k : goal.decreases-loop-k
-decreases-loop-k l =
-    l.size - l.k

@@ -3,7 +3,7 @@ use lib.ListN.{length}
 use Rattle.answers.proofs.Questions.{said_no, said_yes}
 use Rattle.outbox.specs.Bytes.{in_part3}
 use Rattle.codec.proofs.EntryLaws.{stored_as}
-use Rattle.outbox.proofs.Running.{running_start, running_size, running_end, running_space, running_step, running_skip, tally_yes, tally_no, tally_grows, tally_from}
+use Rattle.outbox.proofs.Running.{running_start, running_space, running_step, running_skip, tally_yes, tally_no, tally_grows, tally_from}
 use Rattle.outbox.proofs.BytesLaws.{part3_none, part3_one}
 use native.Mathlib.Omega.{arith}
 use Rattle.outbox.proofs.parts.put_part3s.Goals as goal
@@ -11,34 +11,6 @@ use Rattle.outbox.proofs.parts.put_part3s.Goals as goal
 pub loop-f-init : goal.loop-f-init
 loop-f-init c =
     (running_start _ _ _ _ c.requires.count_bound_2, tally_from _ _)
-
-pub offset_bounds-starts-f : goal.offset_bounds-starts-f
-offset_bounds-starts-f c =
-    omega arith
-
-pub bounds-starts-f : goal.bounds-starts-f
-bounds-starts-f c =
-    omega arith
-
-pub offset_bounds-order-i : goal.offset_bounds-order-i
-offset_bounds-order-i c =
-    omega (arith, c.requires.linked.2.index_small c.loop-f.f c.loop-f-test.true)
-
-pub bounds-order-i : goal.bounds-order-i
-bounds-order-i c =
-    omega (arith, c.requires.linked.2.order_size c.loop-f.f c.loop-f-test.true)
-
-pub overflow_add-f : goal.overflow_add-f
-overflow_add-f c =
-    omega arith
-
-pub sewn_away-requires : goal.sewn_away-requires
-sewn_away-requires c =
-    (c.requires.linked.0, c.requires.linked.1, c.requires.linked.2.place_below c.loop-f.f c.loop-f-test.true)
-
-pub loop-f-smaller-then-not-sewn_away : goal.loop-f-smaller-then-not-sewn_away
-loop-f-smaller-then-not-sewn_away c =
-    omega arith
 
 pub loop-f-preserved-then-not-sewn_away : goal.loop-f-preserved-then-not-sewn_away
 loop-f-preserved-then-not-sewn_away c =
@@ -86,10 +58,6 @@ overflow_add-number c =
     omega
     (arith, c.loop-f.invariant.1, c.requires.count_bound, tally_grows (in_part3 block marks order starts) c.loop-f.f count (omega (arith, c.loop-f-test.true)))
 
-pub loop-f-smaller : goal.loop-f-smaller
-loop-f-smaller c =
-    omega arith
-
 pub loop-f-preserved : goal.loop-f-preserved
 loop-f-preserved c =
     let block = c.args.block.now in
@@ -104,11 +72,3 @@ loop-f-preserved c =
       omega
           (arith, c.loop-f.invariant.1, tally_yes (in_part3 block marks order starts) c.loop-f.f (said_yes c.sewn_away.ensures c.if-not-sewn_away.false)),
     )
-
-pub shape_of-out : goal.shape_of-out
-shape_of-out c =
-    running_size c.loop-f.invariant.0
-
-pub returns : goal.returns
-returns c =
-    running_end c.loop-f.invariant.0 (omega (arith, c.loop-f-test.false))

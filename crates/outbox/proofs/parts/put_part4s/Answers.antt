@@ -1,50 +1,15 @@
 use mathlib.Core.Path.{ap}
-use lib.ListN.{length, get_or}
+use lib.ListN.{length}
 use Rattle.answers.proofs.Questions.{said_no, said_yes}
 use Rattle.codec.proofs.EntryLaws.{stored_as}
-use Rattle.outbox.proofs.Running.{running_start, running_size, running_end, running_space, running_step, running_skip}
-use Rattle.outbox.proofs.BytesLaws.{listed_part, start_le, end_le, some_darts, part4_none, part4_one}
+use Rattle.outbox.proofs.Running.{running_start, running_space, running_step, running_skip}
+use Rattle.outbox.proofs.BytesLaws.{listed_part, end_le, some_darts, part4_none, part4_one}
 use native.Mathlib.Omega.{arith}
 use Rattle.outbox.proofs.parts.put_part4s.Goals as goal
 
 pub loop-f-init : goal.loop-f-init
 loop-f-init c =
     running_start _ _ _ _ c.requires.count_bound
-
-pub offset_bounds-starts-f : goal.offset_bounds-starts-f
-offset_bounds-starts-f c =
-    omega arith
-
-pub bounds-starts-f : goal.bounds-starts-f
-bounds-starts-f c =
-    omega arith
-
-pub face_end-end-requires : goal.face_end-end-requires
-face_end-end-requires c =
-    (c.requires.darts_listed.1.starts_size, omega (arith, c.requires.darts_listed.1.few), c.loop-f-test.true)
-
-pub offset_bounds-order-start : goal.offset_bounds-order-start
-offset_bounds-order-start c =
-    omega (arith, c.requires.darts_listed.1.below c.loop-f.f c.loop-f-test.true, c.requires.darts_listed.0.few)
-
-pub bounds-order-start : goal.bounds-order-start
-bounds-order-start c =
-    omega (arith, c.requires.darts_listed.1.below c.loop-f.f c.loop-f-test.true, c.requires.darts_listed.0.few, c.requires.darts_listed.0.order_size)
-
-pub overflow_add-f : goal.overflow_add-f
-overflow_add-f c =
-    omega arith
-
-pub critical_beside-requires : goal.critical_beside-requires
-critical_beside-requires c =
-    let starts = c.args.starts.now in (
-      c.requires.darts_listed.0.held (get_or starts c.loop-f.f 0) (c.requires.darts_listed.1.below c.loop-f.f c.loop-f-test.true),
-      c.requires.darts_listed.2,
-    )
-
-pub loop-f-smaller-then-not-critical_beside : goal.loop-f-smaller-then-not-critical_beside
-loop-f-smaller-then-not-critical_beside c =
-    omega arith
 
 pub loop-f-preserved-then-not-critical_beside : goal.loop-f-preserved-then-not-critical_beside
 loop-f-preserved-then-not-critical_beside c =
@@ -57,9 +22,18 @@ loop-f-preserved-then-not-critical_beside c =
     running_skip c.loop-f.invariant c.loop-f-test.true
     (part4_none block to order starts c.loop-f.f darts count (said_no c.critical_beside.ensures c.if-not-critical_beside.true))
 
-pub overflow_sub-end : goal.overflow_sub-end
-overflow_sub-end c =
-    start_le c.requires.darts_listed.1 c.loop-f.f c.face_end-end.result c.loop-f-test.true c.face_end-end.ensures
+pub loop-f-preserved : goal.loop-f-preserved
+loop-f-preserved c =
+    let block = c.args.block.now in
+    let to = c.args.to in
+    let order = c.args.order.now in
+    let starts = c.args.starts.now in
+    let darts = c.args.darts in
+    let count = c.args.count in
+    running_step c.loop-f.invariant c.loop-f-test.true
+    (stored_as
+    (part4_one block to order starts c.loop-f.f darts count c.face_end-end.result (said_yes c.critical_beside.ensures c.if-not-critical_beside.false)
+    c.face_end-end.ensures) c.put_beside-at.ensures)
 
 pub put_beside-at-requires : goal.put_beside-at-requires
 put_beside-at-requires c =
@@ -83,28 +57,3 @@ put_beside-at-requires c =
         running_space c.loop-f.invariant c.loop-f-test.true,
       );
     }
-
-pub loop-f-smaller : goal.loop-f-smaller
-loop-f-smaller c =
-    omega arith
-
-pub loop-f-preserved : goal.loop-f-preserved
-loop-f-preserved c =
-    let block = c.args.block.now in
-    let to = c.args.to in
-    let order = c.args.order.now in
-    let starts = c.args.starts.now in
-    let darts = c.args.darts in
-    let count = c.args.count in
-    running_step c.loop-f.invariant c.loop-f-test.true
-    (stored_as
-    (part4_one block to order starts c.loop-f.f darts count c.face_end-end.result (said_yes c.critical_beside.ensures c.if-not-critical_beside.false)
-    c.face_end-end.ensures) c.put_beside-at.ensures)
-
-pub shape_of-out : goal.shape_of-out
-shape_of-out c =
-    running_size c.loop-f.invariant
-
-pub returns : goal.returns
-returns c =
-    running_end c.loop-f.invariant (omega (arith, c.loop-f-test.false))

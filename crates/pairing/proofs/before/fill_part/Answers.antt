@@ -1,6 +1,5 @@
 use mathlib.Core.Path.{◌∙◌, sym}
 use Rattle.pairing.proofs.InBlocks.{few}
-use Rattle.pairing.proofs.ToldBy.{place_in}
 use Rattle.pairing.proofs.ByNumber.{word_in, table_first, table_more, write_lt, filling_lt, filling_end}
 use native.Mathlib.Omega.{arith}
 use Rattle.pairing.proofs.before.fill_part.Goals as goal
@@ -28,14 +27,6 @@ offset_bounds-table-i c =
 pub bounds-table-i : goal.bounds-table-i
 bounds-table-i c =
     write_lt c.requires.0 c.loop-p.invariant.filled c.requires.1 (filling_lt c.loop-p.invariant c.loop-p-test.true) c.next_place-next.ensures.0
-
-pub overflow_add-p : goal.overflow_add-p
-overflow_add-p c =
-    omega (arith, place_in c.requires.0 c.args.i c.loop-p.p c.requires.1 (filling_lt c.loop-p.invariant c.loop-p-test.true))
-
-pub loop-p-smaller : goal.loop-p-smaller
-loop-p-smaller c =
-    omega arith
 
 pub loop-p-preserved : goal.loop-p-preserved
 loop-p-preserved c =

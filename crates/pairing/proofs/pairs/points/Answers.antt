@@ -1,28 +1,31 @@
-use lib.ListN.{length}
-use Prim.Native.Nat.{◌+◌}
-use Rattle.pairing.proofs.Steps.{each_all, each_more, each_no, each_end, two_there, first_of}
+use mathlib.Core.Path.{◌≡◌, subst}
+use Prim.Native.Nat.{ℕ, ◌+◌, ◌*◌}
+use Rattle.pairing.specs.Keys.{point_pair}
+use Rattle.pairing.proofs.Steps.{EachLeft, each_all, each_more, each_no, each_end}
+use native.Mathlib.Omega.{arith}
 use Rattle.pairing.proofs.pairs.points.Goals as goal
 
-pub loop-t-init : goal.loop-t-init
-loop-t-init c =
+pub loop-h-init : goal.loop-h-init
+loop-h-init c =
     each_all _ _
 
 pub points_pair-requires : goal.points_pair-requires
-points_pair-requires c =
-    let keys = c.args.keys.now in (
-      c.requires.0,
-      c.requires.1 c.loop-t.t (first_of (length keys) c.loop-t.t (two_there (length keys) c.loop-t.t c.loop-t-test.true)),
-      c.requires.1 (c.loop-t.t + 1) (two_there (length keys) c.loop-t.t c.loop-t-test.true),
-    )
+points_pair-requires c = (
+  c.requires.0,
+  c.requires.1 (2 * c.loop-h.h) (omega (arith, c.loop-h-test.true)),
+  c.requires.1 (2 * c.loop-h.h + 1) (omega (arith, c.loop-h-test.true)),
+)
 
 pub returns-then-not-points_pair : goal.returns-then-not-points_pair
 returns-then-not-points_pair c =
-    each_no c.loop-t.invariant c.loop-t-test.true c.points_pair.ensures c.if-not-points_pair.true
+    each_no c.loop-h.invariant (omega (arith, c.loop-h-test.true)) c.points_pair.ensures c.if-not-points_pair.true
 
-pub loop-t-preserved : goal.loop-t-preserved
-loop-t-preserved c =
-    each_more c.loop-t.invariant c.loop-t-test.true c.points_pair.ensures c.if-not-points_pair.false
+pub loop-h-preserved : goal.loop-h-preserved
+loop-h-preserved c =
+    let next : 2 * c.loop-h.h + 2 ≡ 2 * (c.loop-h.h + 1) = omega arith in
+    subst (λ (t : ℕ). EachLeft (point_pair c.args.mesh.now) c.args.keys.now t) next
+    (each_more c.loop-h.invariant (omega (arith, c.loop-h-test.true)) c.points_pair.ensures c.if-not-points_pair.false)
 
 pub returns : goal.returns
 returns c =
-    each_end c.loop-t.invariant c.loop-t-test.false
+    each_end c.loop-h.invariant (omega (arith, c.loop-h-test.false))

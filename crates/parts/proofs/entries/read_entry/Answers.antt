@@ -9,33 +9,36 @@ use Rattle.parts.proofs.Reading.{entry_no, entry_half, entry_yes}
 use native.Mathlib.Omega.{arith}
 use Rattle.parts.proofs.entries.read_entry.Goals as goal
 
-pub returns-in_default : goal.returns-in_default
-returns-in_default c =
+pub returns-in_err-index : goal.returns-in_err-index
+returns-in_err-index c =
+    rw c.from_residual.ensures (
     let s = c.args.s.now in
     let at = c.args.at in
-    λ fs z. entry_no fs (part4_none fs s at (bad_at group _ _ (sym c.in_default.is ∙ c.read_group.ensures)))
+    λ fs z. entry_no fs (part4_none fs s at (bad_at group _ _ (sym c.in_err-index.was ∙ c.read_group.ensures))))
 
 pub returns-then-darts-index : goal.returns-then-darts-index
 returns-then-darts-index c =
-    λ fs z. entry_no fs (part4_outside fs (took_group (sym c.in-Value.is ∙ c.read_group.ensures)) z (omega (arith, c.if-darts-index.true)))
+    λ fs z. entry_no fs (part4_outside fs (took_group (sym c.in_ok-index.was ∙ c.read_group.ensures)) z (omega (arith, c.if-darts-index.true)))
 
-pub returns-in_default-read_at_most : goal.returns-in_default-read_at_most
-returns-in_default-read_at_most c =
+pub returns-in_err-other : goal.returns-in_err-other
+returns-in_err-other c =
+    rw c.from_residual-in_err-other.ensures (
     λ fs z. entry_no fs
-    (part4_alone fs (took_group (sym c.in-Value.is ∙ c.read_group.ensures)) z (omega (arith, c.if-darts-index.false))
-    (bad_at (at_most 15) _ _ (sym c.in_default-read_at_most.is ∙ c.read_at_most.ensures)))
+    (part4_alone fs (took_group (sym c.in_ok-index.was ∙ c.read_group.ensures)) z (omega (arith, c.if-darts-index.false))
+    (bad_at (at_most 15) _ _ (sym c.in_err-other.was ∙ c.read_at_most.ensures))))
 
 pub pass_labels-requires : goal.pass_labels-requires
 pass_labels-requires c =
-    (took_at_most 15 (sym c.in-Value-read_at_most.is ∙ c.read_at_most.ensures)).within
+    (took_at_most 15 (sym c.in_ok-other.was ∙ c.read_at_most.ensures)).within
 
-pub returns-in_default-pass_labels : goal.returns-in_default-pass_labels
-returns-in_default-pass_labels c =
-    λ fs z. entry_half fs z (took_group (sym c.in-Value.is ∙ c.read_group.ensures)) (omega (arith, c.if-darts-index.false))
-    (took_at_most 15 (sym c.in-Value-read_at_most.is ∙ c.read_at_most.ensures)) c.size_at-size.ensures c.in_default-pass_labels.is
-    c.pass_labels.ensures
+pub returns-in_err-n : goal.returns-in_err-n
+returns-in_err-n c =
+    rw c.from_residual-in_err-n.ensures (
+    λ fs z. entry_half fs z (took_group (sym c.in_ok-index.was ∙ c.read_group.ensures)) (omega (arith, c.if-darts-index.false))
+    (took_at_most 15 (sym c.in_ok-other.was ∙ c.read_at_most.ensures)) c.size_at-size.ensures c.in_err-n.was
+    c.pass_labels.ensures)
 
 pub returns : goal.returns
 returns c =
-    λ fs z. entry_yes fs z (took_group (sym c.in-Value.is ∙ c.read_group.ensures)) (omega (arith, c.if-darts-index.false))
-    (took_at_most 15 (sym c.in-Value-read_at_most.is ∙ c.read_at_most.ensures)) c.size_at-size.ensures c.in-Value-pass_labels.is c.pass_labels.ensures
+    λ fs z. entry_yes fs z (took_group (sym c.in_ok-index.was ∙ c.read_group.ensures)) (omega (arith, c.if-darts-index.false))
+    (took_at_most 15 (sym c.in_ok-other.was ∙ c.read_at_most.ensures)) c.size_at-size.ensures c.in_ok-n.was c.pass_labels.ensures

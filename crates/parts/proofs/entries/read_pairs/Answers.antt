@@ -36,7 +36,7 @@ pub returns-in_default-read_group : goal.returns-in_default-read_group
 returns-in_default-read_group c =
     let part = c.args.part in
     reading_bad (pair part) (first_number part) (index part) c.loop-i.invariant.0 c.loop-i-test.true
-    (no_index part _ _ _ _ (sym c.in-Value.is ∙ c.read_first.ensures) (sym c.in_default-read_group.is ∙ c.read_group.ensures))
+    (no_index part _ _ _ _ (sym c.in-Some.is ∙ c.read_first.ensures) (sym c.in_default-read_group.is ∙ c.read_group.ensures))
 
 pub offset_bounds-firsts-i : goal.offset_bounds-firsts-i
 offset_bounds-firsts-i c =
@@ -54,18 +54,10 @@ pub bounds-indices-i : goal.bounds-indices-i
 bounds-indices-i c =
     omega arith
 
-pub overflow_add-i : goal.overflow_add-i
-overflow_add-i c =
-    omega arith
-
-pub loop-i-smaller : goal.loop-i-smaller
-loop-i-smaller c =
-    omega arith
-
 pub loop-i-preserved : goal.loop-i-preserved
 loop-i-preserved c =
     let part = c.args.part in
-    let there = took_pair part (sym c.in-Value.is ∙ c.read_first.ensures) (sym c.in-Value-read_group.is ∙ c.read_group.ensures) in (
+    let there = took_pair part (sym c.in-Some.is ∙ c.read_first.ensures) (sym c.in-Some-read_group.is ∙ c.read_group.ensures) in (
       reading_more (pair part) (first_number part) (index part) c.loop-i.invariant.0 c.loop-i-test.true there.took there.first_is there.index_is,
       length-set c.loop-i.firsts _ _ ∙ c.loop-i.invariant.1,
       length-set c.loop-i.indices _ _ ∙ c.loop-i.invariant.2,

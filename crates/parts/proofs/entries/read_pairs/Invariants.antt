@@ -1,6 +1,5 @@
 -- `parts::entries::read_pairs` meets its contract.
 -- Assumes nothing.
-use Prim.Native.Nat.{◌-◌}
 use mathlib.Core.Path.{◌≡◌}
 use lib.ListN.{length}
 use Rattle.parts.specs.Entries.{pair, first_number, index}
@@ -12,7 +11,3 @@ invariant-loop-i l =
     Reading (pair l.part) (first_number l.part) (index l.part) l.s l.at l.count l.firsts l.indices l.i l.p ×
     (length l.firsts ≡ length l.initial.firsts)
     × (length l.indices ≡ length l.initial.indices)
-
-abbrev pub decreases-loop-i : goal.decreases-loop-i
-decreases-loop-i l =
-    l.count - l.i

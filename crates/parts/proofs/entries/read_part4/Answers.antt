@@ -48,14 +48,6 @@ pub bounds-places-i : goal.bounds-places-i
 bounds-places-i c =
     omega arith
 
-pub overflow_add-i : goal.overflow_add-i
-overflow_add-i c =
-    omega arith
-
-pub loop-i-smaller : goal.loop-i-smaller
-loop-i-smaller c =
-    omega arith
-
 pub loop-i-preserved : goal.loop-i-preserved
 loop-i-preserved c = (
   simp length-set c.loop-i.invariant.0,
@@ -63,7 +55,7 @@ loop-i-preserved c = (
   simp length-set c.loop-i.invariant.2,
   (λ fs z. reading4_more fs (c.loop-i.invariant.3 fs z) c.loop-i-test.true (omega (arith, c.loop-i-test.true, c.requires.2, c.loop-i.invariant.0))
       (omega (arith, c.loop-i-test.true, c.requires.3, c.loop-i.invariant.1)) (omega (arith, c.loop-i-test.true, c.requires.4, c.loop-i.invariant.2))
-      (entry_there fs (c.read_entry.ensures fs z) c.in-Entry.is)),
+      (entry_there fs (c.read_entry.ensures fs z) c.in-Some.is)),
 )
 
 pub shape_of-indices : goal.shape_of-indices

@@ -1,6 +1,5 @@
 -- `parts::entries::read_part4` meets its contract.
 -- Assumes nothing.
-use Prim.Native.Nat.{◌-◌}
 use mathlib.Core.Path.{◌≡◌}
 use mathlib.Core.List.{List}
 use lib.ListN.{length}
@@ -13,7 +12,3 @@ abbrev pub invariant-loop-i : goal.invariant-loop-i
 invariant-loop-i l =
     (length l.indices ≡ length l.initial.indices) × (length l.others ≡ length l.initial.others) × (length l.places ≡ length l.initial.places)
     × ((fs : List (List FaceDart)) → Sized fs l.darts l.sizes → Reading4 fs l.sizes l.s l.at l.count l.indices l.others l.places l.i l.p)
-
-abbrev pub decreases-loop-i : goal.decreases-loop-i
-decreases-loop-i l =
-    l.count - l.i

@@ -25,7 +25,7 @@ bounds-array-first c =
 
 pub loop-j-preserved : goal.loop-j-preserved
 loop-j-preserved c =
-    coding_more c.loop-j.invariant c.requires.0 c.loop-j-test.true (sym c.in-Value.is ∙ c.read_label.ensures)
+    coding_more c.loop-j.invariant c.requires.0 c.loop-j-test.true (sym c.in-Some.is ∙ c.read_label.ensures)
 
 pub shape_of-array : goal.shape_of-array
 shape_of-array c =

@@ -1,13 +1,8 @@
 -- `parts::faces::put_codes` meets its contract.
 -- Assumes nothing.
-use Prim.Native.Nat.{◌-◌}
 use Rattle.parts.proofs.Writing.{Coding}
 use Rattle.parts.proofs.faces.put_codes.Given as goal
 
 abbrev pub invariant-loop-j : goal.invariant-loop-j
 invariant-loop-j l =
     Coding l.message l.from l.n l.first l.initial.array l.array l.j l.p
-
-abbrev pub decreases-loop-j : goal.decreases-loop-j
-decreases-loop-j l =
-    l.n - l.j

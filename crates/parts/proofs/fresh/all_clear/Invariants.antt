@@ -1,6 +1,5 @@
 -- `parts::fresh::all_clear` meets its contract.
 -- Assumes nothing.
-use Prim.Native.Nat.{◌-◌}
 use Rattle.model.specs.Lists.{tab}
 use Rattle.ranking.specs.Ranks.{value_at}
 use Rattle.parts.specs.Fresh.{clear_at}
@@ -10,7 +9,3 @@ use Rattle.parts.proofs.fresh.all_clear.Given as goal
 abbrev pub invariant-loop-p : goal.invariant-loop-p
 invariant-loop-p l =
     Passing (clear_at l.block (tab (value_at l.keys) l.k)) l.p
-
-abbrev pub decreases-loop-p : goal.decreases-loop-p
-decreases-loop-p l =
-    l.n - l.p

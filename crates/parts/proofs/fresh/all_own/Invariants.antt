@@ -1,6 +1,5 @@
 -- `parts::fresh::all_own` meets its contract.
 -- Assumes nothing.
-use Prim.Native.Nat.{◌-◌}
 use Rattle.parts.specs.Fresh.{own_at}
 use Rattle.arrival.proofs.Steps.{Passing}
 use Rattle.parts.proofs.fresh.all_own.Given as goal
@@ -8,7 +7,3 @@ use Rattle.parts.proofs.fresh.all_own.Given as goal
 abbrev pub invariant-loop-q : goal.invariant-loop-q
 invariant-loop-q l =
     Passing (own_at l.number l.counter l.kinds l.links) l.q
-
-abbrev pub decreases-loop-q : goal.decreases-loop-q
-decreases-loop-q l =
-    l.k - l.q

@@ -27,4 +27,4 @@ returns c =
     let k = c.args.k in
     let p' = c.args.p.0 in
     clear_found block keys k p' (ap is_critical_word (sym c.field.ensures) ∙ sym c.is_critical.ensures ∙ c.if-not-is_critical.false)
-    (ap (rank_in (value_at keys) k) (sym c.field-2.ensures) ∙ sym c.find.ensures ∙ c.in-At.is)
+    (ap (rank_in (value_at keys) k) (sym c.field-2.ensures) ∙ sym c.find.ensures ∙ c.in-Some.is)

@@ -27,17 +27,17 @@ returns-in_default c =
 
 pub offset_bounds-keys-r : goal.offset_bounds-keys-r
 offset_bounds-keys-r c =
-    let b = found_below c.args.keys.now c.args.c _ (sym c.find.ensures ∙ c.in-At.is) in
+    let b = found_below c.args.keys.now c.args.c _ (sym c.find.ensures ∙ c.in-Some.is) in
     omega arith
 
 pub bounds-keys-r : goal.bounds-keys-r
 bounds-keys-r c =
-    let b = found_below c.args.keys.now c.args.c _ (sym c.find.ensures ∙ c.in-At.is) in
+    let b = found_below c.args.keys.now c.args.c _ (sym c.find.ensures ∙ c.in-Some.is) in
     omega arith
 
 pub bounds-places-e : goal.bounds-places-e
 bounds-places-e c =
-    let b = found_below c.args.keys.now c.args.c _ (sym c.find.ensures ∙ c.in-At.is) in
+    let b = found_below c.args.keys.now c.args.c _ (sym c.find.ensures ∙ c.in-Some.is) in
     let i = c.requires.5 _ b in
     omega (arith, i, c.requires.3)
 
@@ -50,4 +50,4 @@ returns c =
     let places = c.args.places.now in
     noted_found block keys c' p' places (ap is_critical_word (sym c.field.ensures) ∙ sym c.is_critical.ensures ∙ c.if-not-is_critical.false)
     c.requires.4 c.requires.3
-    c.requires.5 (ap (rank_in (value_at keys) c') (sym c.field-2.ensures) ∙ sym c.find.ensures ∙ c.in-At.is)
+    c.requires.5 (ap (rank_in (value_at keys) c') (sym c.field-2.ensures) ∙ sym c.find.ensures ∙ c.in-Some.is)

@@ -1,6 +1,6 @@
 -- `parts::meets::assign` meets its contract.
 -- Assumes nothing.
-use Prim.Native.Nat.{◌-◌, ◌≤◌}
+use Prim.Native.Nat.{◌≤◌}
 use lib.ListN.{take}
 use Rattle.cells.specs.Places.{Assigned}
 use Rattle.parts.proofs.meets.assign.Given as goal
@@ -8,7 +8,3 @@ use Rattle.parts.proofs.meets.assign.Given as goal
 abbrev pub invariant-loop-j : goal.invariant-loop-j
 invariant-loop-j l =
     Assigned 1 (take l.j l.trail) l.initial.seen l.seen × (l.j ≤ l.size)
-
-abbrev pub decreases-loop-j : goal.decreases-loop-j
-decreases-loop-j l =
-    l.size - l.j

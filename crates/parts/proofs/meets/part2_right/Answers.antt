@@ -67,10 +67,6 @@ returns-then-not-enter c =
     (omega arith)
     (sym (entered_said c.args.sizes.now c.args.places.now c.args.indices.now c.loop-e.e c.loop-e.invariant.0 entered) ∙ c.if-not-enter.true))
 
-pub overflow_add-e : goal.overflow_add-e
-overflow_add-e c =
-    omega (arith, c.loop-e-test.true, c.requires.sewable.few)
-
 pub loop-e-preserved : goal.loop-e-preserved
 loop-e-preserved c =
     let entered = entered_at c.args.sizes.now c.args.places.now c.args.indices.now c.loop-e.e c.place_at-y.ensures c.entry_index-at.ensures

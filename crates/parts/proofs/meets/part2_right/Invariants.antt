@@ -1,6 +1,6 @@
 -- `parts::meets::part2_right` meets its contract.
 -- Assumes nothing.
-use Prim.Native.Nat.{◌-◌, ◌≤◌}
+use Prim.Native.Nat.{◌≤◌}
 use mathlib.Core.Path.{◌≡◌}
 use lib.ListN.{length, get_or}
 use Rattle.model.specs.Cells.{cycle}
@@ -18,7 +18,3 @@ invariant-loop-e l =
     l.links
     × Passing (passes_at l.block l.draft l.ranks l.sizes l.places l.indices l.n l.from) l.e × (l.e ≤ l.c)
     × (length l.trail ≡ length l.initial.trail) × (length l.seen ≡ length l.initial.seen)
-
-abbrev pub decreases-loop-e : goal.decreases-loop-e
-decreases-loop-e l =
-    l.c - l.e

@@ -22,10 +22,6 @@ pub bounds-trail-i : goal.bounds-trail-i
 bounds-trail-i c =
     omega arith
 
-pub overflow_add-i : goal.overflow_add-i
-overflow_add-i c =
-    omega arith
-
 pub next_of-next-requires : goal.next_of-next-requires
 next_of-next-requires c =
     omega (arith, c.loop-i.invariant.0.below, c.requires.0.size)

@@ -11,7 +11,3 @@ abbrev pub invariant-loop-i : goal.invariant-loop-i
 invariant-loop-i l =
     Going l.n (column l.block 1) l.first (length (cycle (column l.block 1) l.first)) (l.i - 0) l.p × Writing (column l.block 1) l.first 0
     l.initial.trail l.trail l.i × (l.i ≤ l.size)
-
-abbrev pub decreases-loop-i : goal.decreases-loop-i
-decreases-loop-i l =
-    l.size - l.i

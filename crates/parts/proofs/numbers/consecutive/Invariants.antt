@@ -1,6 +1,6 @@
 -- `parts::numbers::consecutive` meets its contract.
 -- Assumes nothing.
-use Prim.Native.Nat.{◌-◌, ◌≤◌}
+use Prim.Native.Nat.{◌≤◌}
 use Rattle.parts.specs.Numbers.{follows_at}
 use Rattle.arrival.proofs.Steps.{Passing}
 use Rattle.parts.proofs.numbers.consecutive.Given as goal
@@ -8,7 +8,3 @@ use Rattle.parts.proofs.numbers.consecutive.Given as goal
 abbrev pub invariant-loop-e : goal.invariant-loop-e
 invariant-loop-e l =
     Passing (follows_at l.numbers) l.e × (l.e ≤ l.c)
-
-abbrev pub decreases-loop-e : goal.decreases-loop-e
-decreases-loop-e l =
-    l.c - l.e

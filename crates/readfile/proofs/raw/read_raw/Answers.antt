@@ -18,40 +18,40 @@ returns-in_default c =
 pub returns-in_default-read_group : goal.returns-in_default-read_group
 returns-in_default-read_group c =
     raw_refused
-    (no_counter (limits_of c.args.limits) (took_at_most 15 (sym c.in-Value.is ∙ c.read_at_most.ensures))
+    (no_counter (limits_of c.args.limits) (took_at_most 15 (sym c.in-Some.is ∙ c.read_at_most.ensures))
     (record { value = bad_at group _ _ (sym c.in_default-read_group.is ∙ c.read_group.ensures) }))
 
 pub returns-in_default-read_group-2 : goal.returns-in_default-read_group-2
 returns-in_default-read_group-2 c =
-    raw_refused (no_count (limits_of c.args.limits) (took_at_most 15 (sym c.in-Value.is ∙ c.read_at_most.ensures))
-    (took_group (sym c.in-Value-read_group.is ∙ c.read_group.ensures))
+    raw_refused (no_count (limits_of c.args.limits) (took_at_most 15 (sym c.in-Some.is ∙ c.read_at_most.ensures))
+    (took_group (sym c.in-Some-read_group.is ∙ c.read_group.ensures))
     (record { value = bad_at group _ _ (sym c.in_default-read_group-2.is ∙ c.read_group-2.ensures) }))
 
 pub returns-then-limits-count : goal.returns-then-limits-count
 returns-then-limits-count c =
-    raw_refused (too_many (limits_of c.args.limits) (took_at_most 15 (sym c.in-Value.is ∙ c.read_at_most.ensures))
-    (took_group (sym c.in-Value-read_group.is ∙ c.read_group.ensures))
-    (took_group (sym c.in-Value-read_group-2.is ∙ c.read_group-2.ensures)) c.if-limits-count.true)
+    raw_refused (too_many (limits_of c.args.limits) (took_at_most 15 (sym c.in-Some.is ∙ c.read_at_most.ensures))
+    (took_group (sym c.in-Some-read_group.is ∙ c.read_group.ensures))
+    (took_group (sym c.in-Some-read_group-2.is ∙ c.read_group-2.ensures)) c.if-limits-count.true)
 
 pub read_darts-requires : goal.read_darts-requires
 read_darts-requires c = (
-  (took_group (sym c.in-Value-read_group-2.is ∙ c.read_group-2.ensures)).within,
+  (took_group (sym c.in-Some-read_group-2.is ∙ c.read_group-2.ensures)).within,
   omega (arith, zeros_length (words_of (limits_of c.args.limits)) _ c.requires),
 )
 
 pub returns-in_default-read_darts : goal.returns-in_default-read_darts
 returns-in_default-read_darts c =
-    raw_refused (no_darts (limits_of c.args.limits) (took_at_most 15 (sym c.in-Value.is ∙ c.read_at_most.ensures))
-    (took_group (sym c.in-Value-read_group.is ∙ c.read_group.ensures))
-    (took_group (sym c.in-Value-read_group-2.is ∙ c.read_group-2.ensures)) (omega arith)
+    raw_refused (no_darts (limits_of c.args.limits) (took_at_most 15 (sym c.in-Some.is ∙ c.read_at_most.ensures))
+    (took_group (sym c.in-Some-read_group.is ∙ c.read_group.ensures))
+    (took_group (sym c.in-Some-read_group-2.is ∙ c.read_group-2.ensures)) (omega arith)
     (sym c.in_default-read_darts.is ∙ c.read_darts.ensures.answer))
 
 pub returns-then-past-file : goal.returns-then-past-file
 returns-then-past-file c =
-    raw_refused (left_over (limits_of c.args.limits) (took_at_most 15 (sym c.in-Value.is ∙ c.read_at_most.ensures))
-    (took_group (sym c.in-Value-read_group.is ∙ c.read_group.ensures))
-    (took_group (sym c.in-Value-read_group-2.is ∙ c.read_group-2.ensures)) (omega arith)
-    (sym c.in-At.is ∙ c.read_darts.ensures.answer) c.if-past-file.true)
+    raw_refused (left_over (limits_of c.args.limits) (took_at_most 15 (sym c.in-Some.is ∙ c.read_at_most.ensures))
+    (took_group (sym c.in-Some-read_group.is ∙ c.read_group.ensures))
+    (took_group (sym c.in-Some-read_group-2.is ∙ c.read_group-2.ensures)) (omega arith)
+    (sym c.in-Some-read_darts.is ∙ c.read_darts.ensures.answer) c.if-past-file.true)
 
 pub write-requires : goal.write-requires
 write-requires c =
@@ -59,7 +59,7 @@ write-requires c =
 
 pub returns : goal.returns
 returns c =
-    raw_served (limits_of c.args.limits) (took_at_most 15 (sym c.in-Value.is ∙ c.read_at_most.ensures))
-    (took_group (sym c.in-Value-read_group.is ∙ c.read_group.ensures))
-    (took_group (sym c.in-Value-read_group-2.is ∙ c.read_group-2.ensures)) (omega arith) _ c.requires
-    (rw c.in-At.is at c.read_darts.ensures) (omega arith) c.write.ensures
+    raw_served (limits_of c.args.limits) (took_at_most 15 (sym c.in-Some.is ∙ c.read_at_most.ensures))
+    (took_group (sym c.in-Some-read_group.is ∙ c.read_group.ensures))
+    (took_group (sym c.in-Some-read_group-2.is ∙ c.read_group-2.ensures)) (omega arith) _ c.requires
+    (rw c.in-Some-read_darts.is at c.read_darts.ensures) (omega arith) c.write.ensures

@@ -6,7 +6,3 @@ use Rattle.readpages.proofs.counter.least_counter.Given as goal
 abbrev pub invariant-loop-i : goal.invariant-loop-i
 invariant-loop-i l =
     Above l.block l.n l.me l.c l.i
-
-abbrev pub decreases-loop-i : goal.decreases-loop-i
-decreases-loop-i l =
-    l.i

@@ -41,7 +41,7 @@ returns-in_default c =
 
 pub returns-then-number-ge-BLOCKS : goal.returns-then-number-ge-BLOCKS
 returns-then-number-ge-BLOCKS c =
-    let column = rw c.in-Value.is at c.read_column.ensures in
+    let column = rw c.in-Some.is at c.read_column.ensures in
     let lim = limits_of c.args.limits in
     let s = c.args.s.now in
     let bytes = byte_list s (λ i. (c.type_inv.s i).fits) in
@@ -54,7 +54,7 @@ row_count-n-requires c =
 
 pub returns-then-limits-n : goal.returns-then-limits-n
 returns-then-limits-n c =
-    let column = rw c.in-Value.is at c.read_column.ensures in
+    let column = rw c.in-Some.is at c.read_column.ensures in
     let lim = limits_of c.args.limits in
     let s = c.args.s.now in
     let bytes = byte_list s (λ i. (c.type_inv.s i).fits) in
@@ -67,7 +67,7 @@ fills-requires c =
 
 pub returns-then-not-fills : goal.returns-then-not-fills
 returns-then-not-fills c =
-    let column = rw c.in-Value.is at c.read_column.ensures in
+    let column = rw c.in-Some.is at c.read_column.ensures in
     let lim = limits_of c.args.limits in
     let s = c.args.s.now in
     let bytes = byte_list s (λ i. (c.type_inv.s i).fits) in
@@ -80,7 +80,7 @@ firsts_right-requires c =
 
 pub returns-then-not-firsts_right : goal.returns-then-not-firsts_right
 returns-then-not-firsts_right c =
-    let column = rw c.in-Value.is at c.read_column.ensures in
+    let column = rw c.in-Some.is at c.read_column.ensures in
     let lim = limits_of c.args.limits in
     let s = c.args.s.now in
     let bytes = byte_list s (λ i. (c.type_inv.s i).fits) in
@@ -93,7 +93,7 @@ rest_blank-requires c =
 
 pub returns-then-not-rest_blank : goal.returns-then-not-rest_blank
 returns-then-not-rest_blank c =
-    let column = rw c.in-Value.is at c.read_column.ensures in
+    let column = rw c.in-Some.is at c.read_column.ensures in
     let lim = limits_of c.args.limits in
     let s = c.args.s.now in
     let bytes = byte_list s (λ i. (c.type_inv.s i).fits) in
@@ -111,7 +111,7 @@ store_rows-requires c =
 pub returns-then-not-store_rows : goal.returns-then-not-store_rows
 returns-then-not-store_rows c =
     let wrong = c.if-not-store_rows.true in
-    let column = rw c.in-Value.is at c.read_column.ensures in
+    let column = rw c.in-Some.is at c.read_column.ensures in
     let lim = limits_of c.args.limits in
     let s = c.args.s.now in
     let bytes = byte_list s (λ i. (c.type_inv.s i).fits) in
@@ -124,7 +124,7 @@ write-requires c =
 
 pub returns : goal.returns
 returns c =
-    let column = rw c.in-Value.is at c.read_column.ensures in
+    let column = rw c.in-Some.is at c.read_column.ensures in
     let lim = limits_of c.args.limits in
     let s = c.args.s.now in
     let bytes = byte_list s (λ i. (c.type_inv.s i).fits) in

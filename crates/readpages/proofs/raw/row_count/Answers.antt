@@ -1,5 +1,5 @@
-use mathlib.Core.Path.{sym, ◌∙◌, ap}
-use Prim.Native.Nat.{ℕ, ◌+◌}
+use mathlib.Core.Path.{◌≡◌, sym, ◌∙◌, ap}
+use Prim.Native.Nat.{ℕ, ◌+◌, ◌*◌}
 use lib.ListN.{get_or}
 use Rattle.readpages.proofs.PageTexts.{row_within, count_none, count_more, count_stops, count_ends}
 use native.Mathlib.Omega.{arith}
@@ -35,4 +35,5 @@ loop-i-preserved c = (
 
 pub returns : goal.returns
 returns c =
-    count_ends c.loop-i.invariant.1 c.loop-i.invariant.0 c.loop-i-test.false
+    let all : 59 * c.args.total ≡ c.loop-i.i = omega (arith, c.loop-i.invariant.0, c.loop-i-test.false) in
+    all ∙ count_ends c.loop-i.invariant.1 c.loop-i.invariant.0 c.loop-i-test.false

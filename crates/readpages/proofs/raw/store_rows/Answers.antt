@@ -26,7 +26,7 @@ returns-in_default c =
 
 pub loop-i-preserved : goal.loop-i-preserved
 loop-i-preserved c =
-    fill_more c.loop-i.invariant c.loop-i-test.true (omega (arith, c.requires.2)) (rw (c.in-Value.is, c.row_place.ensures) at c.store_row.ensures)
+    fill_more c.loop-i.invariant c.loop-i-test.true (omega (arith, c.requires.2)) (rw (c.in-Some.is, c.row_place.ensures) at c.store_row.ensures)
 
 pub shape_of-block : goal.shape_of-block
 shape_of-block c =

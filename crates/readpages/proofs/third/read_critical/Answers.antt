@@ -15,40 +15,42 @@ pub number_before-requires : goal.number_before-requires
 number_before-requires c =
     (omega (arith, c.requires), blank_no_digit)
 
-pub returns-in_default : goal.returns-in_default
-returns-in_default c =
-    λ o l w. (rw c.in_default.is at c.number_before.ensures) _ _ (other_ended w)
+pub returns-in_err-other : goal.returns-in_err-other
+returns-in_err-other c =
+    rw c.from_residual.ensures (
+    λ o l w. (rw c.in_err-other.was at c.number_before.ensures) _ _ (other_ended w))
 
 pub returns-then-other-ge-BLOCKS : goal.returns-then-other-ge-BLOCKS
 returns-then-other-ge-BLOCKS c =
-    other_large c.args.at (rw c.in-Value.is at c.number_before.ensures) c.if-other-ge-BLOCKS.true
+    other_large c.args.at (rw c.in_ok-other.was at c.number_before.ensures) c.if-other-ge-BLOCKS.true
 
 pub read_label-requires : goal.read_label-requires
 read_label-requires c =
-    omega (arith, c.requires, other_past c.args.at (rw c.in-Value.is at c.number_before.ensures) (omega (arith, c.if-other-ge-BLOCKS.false)))
+    omega (arith, c.requires, other_past c.args.at (rw c.in_ok-other.was at c.number_before.ensures) (omega (arith, c.if-other-ge-BLOCKS.false)))
 
-pub returns-in_default-read_label : goal.returns-in_default-read_label
-returns-in_default-read_label c =
-    no_label c.args.at (rw c.in-Value.is at c.number_before.ensures) (rw c.in_default-read_label.is at c.read_label.ensures)
+pub returns-in_err-code : goal.returns-in_err-code
+returns-in_err-code c =
+    rw c.from_residual-in_err-code.ensures (
+    no_label c.args.at (rw c.in_ok-other.was at c.number_before.ensures) (rw c.in_err-code.was at c.read_label.ensures))
 
 pub overflow_sub-at : goal.overflow_sub-at
 overflow_sub-at c =
     omega
-    (arith, label_past c.args.at (rw c.in-Value.is at c.number_before.ensures) (rw c.in-Value-read_label.is at c.read_label.ensures) (omega (arith, c.if-other-ge-BLOCKS.false)))
+    (arith, label_past c.args.at (rw c.in_ok-other.was at c.number_before.ensures) (rw c.in_ok-code.was at c.read_label.ensures) (omega (arith, c.if-other-ge-BLOCKS.false)))
 
 pub blank-requires : goal.blank-requires
 blank-requires c =
     omega
-    (arith, c.requires, label_past c.args.at (rw c.in-Value.is at c.number_before.ensures) (rw c.in-Value-read_label.is at c.read_label.ensures) (omega (arith, c.if-other-ge-BLOCKS.false)))
+    (arith, c.requires, label_past c.args.at (rw c.in_ok-other.was at c.number_before.ensures) (rw c.in_ok-code.was at c.read_label.ensures) (omega (arith, c.if-other-ge-BLOCKS.false)))
 
 pub returns-then-not-blank : goal.returns-then-not-blank
 returns-then-not-blank c =
-    crit_other c.args.at (rw c.in-Value.is at c.number_before.ensures) (rw c.in-Value-read_label.is at c.read_label.ensures)
+    crit_other c.args.at (rw c.in_ok-other.was at c.number_before.ensures) (rw c.in_ok-code.was at c.read_label.ensures)
     (told_no c.blank.ensures c.if-not-blank.true)
 
 pub returns : goal.returns
 unfolding bytes
 returns c =
-    crit_found c.args.at (rw c.in-Value.is at c.number_before.ensures) (rw c.in-Value-read_label.is at c.read_label.ensures)
+    crit_found c.args.at (rw c.in_ok-other.was at c.number_before.ensures) (rw c.in_ok-code.was at c.read_label.ensures)
     (omega (arith, c.if-other-ge-BLOCKS.false)) (told_yes c.text_at.ensures c.if-not-text_at.false) (told_yes c.blank.ensures c.if-not-blank.false)
     c.critical_with.ensures

@@ -15,24 +15,25 @@ pub number_before-requires : goal.number_before-requires
 number_before-requires c =
     (omega (arith, c.requires), blank_no_digit)
 
-pub returns-in_default : goal.returns-in_default
-returns-in_default c =
-    λ v w. (rw c.in_default.is at c.number_before.ensures) _ _ (sewn_ended w)
+pub returns-in_err-serial : goal.returns-in_err-serial
+returns-in_err-serial c =
+    rw c.from_residual.ensures (
+    λ v w. (rw c.in_err-serial.was at c.number_before.ensures) _ _ (sewn_ended w))
 
 pub overflow_sub-at : goal.overflow_sub-at
 overflow_sub-at c =
-    omega (arith, sewn_past c.args.at (rw c.in-Value.is at c.number_before.ensures))
+    omega (arith, sewn_past c.args.at (rw c.in_ok-serial.was at c.number_before.ensures))
 
 pub blank-requires : goal.blank-requires
 blank-requires c =
-    omega (arith, c.requires, sewn_past c.args.at (rw c.in-Value.is at c.number_before.ensures))
+    omega (arith, c.requires, sewn_past c.args.at (rw c.in_ok-serial.was at c.number_before.ensures))
 
 pub returns-then-not-blank : goal.returns-then-not-blank
 returns-then-not-blank c =
-    sewn_other c.args.at (rw c.in-Value.is at c.number_before.ensures) (told_no c.blank.ensures c.if-not-blank.true)
+    sewn_other c.args.at (rw c.in_ok-serial.was at c.number_before.ensures) (told_no c.blank.ensures c.if-not-blank.true)
 
 pub returns : goal.returns
 unfolding bytes
 returns c =
-    sewn_found c.args.at (rw c.in-Value.is at c.number_before.ensures) (told_yes c.text_at.ensures c.if-not-text_at.false)
+    sewn_found c.args.at (rw c.in_ok-serial.was at c.number_before.ensures) (told_yes c.text_at.ensures c.if-not-text_at.false)
     (told_yes c.blank.ensures c.if-not-blank.false)

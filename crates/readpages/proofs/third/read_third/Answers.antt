@@ -9,13 +9,14 @@ pub returns-then-s-at-eq99 : goal.returns-then-s-at-eq99
 returns-then-s-at-eq99 c =
     by_critical c.args.s.now c.args.at c.read_critical.result c.if-s-at-eq99.true c.read_critical.ensures
 
-pub returns-in_default : goal.returns-in_default
-returns-in_default c =
-    only_sewn c.if-s-at-eq115.true (rw c.in_default.is at c.read_sewn.ensures)
+pub returns-in_err-serial : goal.returns-in_err-serial
+returns-in_err-serial c =
+    rw c.from_residual.ensures (
+    only_sewn c.if-s-at-eq115.true (rw c.in_err-serial.was at c.read_sewn.ensures))
 
 pub returns-then-s-at-eq115 : goal.returns-then-s-at-eq115
 returns-then-s-at-eq115 c =
-    sewn_link (rw c.in-Value.is at c.read_sewn.ensures)
+    sewn_link (rw c.in_ok-serial.was at c.read_sewn.ensures)
 
 pub returns-then-not-text_at : goal.returns-then-not-text_at
 unfolding bytes

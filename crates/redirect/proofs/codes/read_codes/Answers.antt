@@ -24,17 +24,9 @@ pub bounds-codes-i : goal.bounds-codes-i
 bounds-codes-i c =
     omega arith
 
-pub overflow_add-i : goal.overflow_add-i
-overflow_add-i c =
-    omega arith
-
-pub loop-i-smaller : goal.loop-i-smaller
-loop-i-smaller c =
-    omega arith
-
 pub loop-i-preserved : goal.loop-i-preserved
 loop-i-preserved c =
-    (reading_more c.loop-i.invariant.0 c.loop-i-test.true (sym c.in-Value.is ∙ c.read_label.ensures), simp length-set c.loop-i.invariant.1)
+    (reading_more c.loop-i.invariant.0 c.loop-i-test.true (sym c.in-Some.is ∙ c.read_label.ensures), simp length-set c.loop-i.invariant.1)
 
 pub shape_of-codes : goal.shape_of-codes
 shape_of-codes c =

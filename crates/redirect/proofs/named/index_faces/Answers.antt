@@ -22,10 +22,6 @@ field-requires c =
     let l = linked_by c.args.block.now c.requires.block_value.0 c.requires.block_value.1 in
     (omega (arith, c.loop-p-test.true, l.size), omega arith)
 
-pub loop-p-smaller-then-field-word : goal.loop-p-smaller-then-field-word
-loop-p-smaller-then-field-word c =
-    omega arith
-
 pub loop-p-preserved-then-field-word : goal.loop-p-preserved-then-field-word
 loop-p-preserved-then-field-word c =
     let block = c.args.block.now in
@@ -46,10 +42,6 @@ offset_bounds-table-p c =
 pub bounds-table-p : goal.bounds-table-p
 bounds-table-p c =
     omega (arith, c.loop-p-test.true, c.loop-p.invariant.0.size)
-
-pub loop-p-smaller-then-table-p-ne4097 : goal.loop-p-smaller-then-table-p-ne4097
-loop-p-smaller-then-table-p-ne4097 c =
-    omega arith
 
 pub loop-p-preserved-then-table-p-ne4097 : goal.loop-p-preserved-then-table-p-ne4097
 loop-p-preserved-then-table-p-ne4097 c =
@@ -74,10 +66,6 @@ assign_face-requires c =
 pub bounds-hits-k : goal.bounds-hits-k
 bounds-hits-k c =
     omega (arith, index_few c.args.codes.now c.args.c c.face_code-code.result c.index_of-k.ensures, c.loop-p.invariant.3, c.requires.n_in_bounds.2)
-
-pub loop-p-smaller : goal.loop-p-smaller
-loop-p-smaller c =
-    omega arith
 
 pub loop-p-preserved : goal.loop-p-preserved
 loop-p-preserved c =

@@ -1,7 +1,6 @@
 -- `redirect::named::index_faces` meets its contract. The loop's invariant: faces with a dart below p have their index, which is marked.
--- The measure is what is left of the places. Assumes nothing.
+-- Assumes nothing.
 use mathlib.Core.Path.{◌≡◌}
-use Prim.Native.Nat.{◌-◌}
 use lib.ListN.{length}
 use Rattle.redirect.specs.ByPlaces.{code_index}
 use Rattle.redirect.proofs.Indices.{Indexing}
@@ -12,7 +11,3 @@ abbrev pub invariant-loop-p : goal.invariant-loop-p
 invariant-loop-p l =
     Indexing (code_index l.block l.from l.codes l.c) l.n l.p l.table × Hitting (code_index l.block l.from l.codes l.c) l.n l.table l.hits
     × (length l.table ≡ length l.initial.table) × (length l.hits ≡ length l.initial.hits)
-
-abbrev pub decreases-loop-p : goal.decreases-loop-p
-decreases-loop-p l =
-    l.n - l.p

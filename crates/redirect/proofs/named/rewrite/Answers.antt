@@ -14,10 +14,6 @@ pub bounds-table-p : goal.bounds-table-p
 bounds-table-p c =
     omega arith
 
-pub loop-p-smaller-then-c-wide : goal.loop-p-smaller-then-c-wide
-loop-p-smaller-then-c-wide c =
-    omega arith
-
 pub loop-p-preserved-then-c-wide : goal.loop-p-preserved-then-c-wide
 loop-p-preserved-then-c-wide c = (
   omega (arith, c.loop-p-test.true),
@@ -27,10 +23,6 @@ loop-p-preserved-then-c-wide c = (
 pub put_field-requires : goal.put_field-requires
 put_field-requires c =
     (omega (arith, c.loop-p-test.true, c.loop-p.invariant.1.size, c.requires.1), omega arith)
-
-pub loop-p-smaller : goal.loop-p-smaller
-loop-p-smaller c =
-    omega arith
 
 pub loop-p-preserved : goal.loop-p-preserved
 loop-p-preserved c =

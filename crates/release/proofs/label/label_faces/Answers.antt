@@ -3,25 +3,9 @@ use Rattle.release.proofs.Labelling.{facing_start, facing_end, sewing_stays, sta
 use native.Mathlib.Omega.{arith}
 use Rattle.release.proofs.label.label_faces.Goals as goal
 
-pub bounds-block-2 : goal.bounds-block-2
-bounds-block-2 c =
-    omega arith
-
-pub bounds-block-1 : goal.bounds-block-1
-bounds-block-1 c =
-    omega arith
-
 pub loop-f-init : goal.loop-f-init
 loop-f-init c =
     facing_start c.args.block.now c.args.marks.now c.args.to
-
-pub offset_bounds-starts-f : goal.offset_bounds-starts-f
-offset_bounds-starts-f c =
-    omega (arith, c.loop-f-test.true, (order_few c.requires.0 c.requires.1).1)
-
-pub bounds-starts-f : goal.bounds-starts-f
-bounds-starts-f c =
-    omega (arith, c.loop-f-test.true, (order_few c.requires.0 c.requires.1).1, c.requires.1.starts_size)
 
 pub offset_bounds-order-i : goal.offset_bounds-order-i
 offset_bounds-order-i c =
@@ -32,19 +16,11 @@ bounds-order-i c =
     omega
     (arith, (starting c.requires.0 c.requires.1 c.loop-f.f c.loop-f-test.true).index_lt, (order_few c.requires.0 c.requires.1).0, c.requires.1.out_size)
 
-pub overflow_add-f : goal.overflow_add-f
-overflow_add-f c =
-    omega (arith, c.loop-f-test.true, (order_few c.requires.0 c.requires.1).1)
-
 pub field-requires : goal.field-requires
 field-requires c = (
   omega (arith, (starting c.requires.0 c.requires.1 c.loop-f.f c.loop-f-test.true).below, c.loop-f.invariant.same.size, c.requires.0.size),
   omega arith,
 )
-
-pub loop-f-smaller-then-not-is_sewn : goal.loop-f-smaller-then-not-is_sewn
-loop-f-smaller-then-not-is_sewn c =
-    omega arith
 
 pub loop-f-preserved-then-not-is_sewn : goal.loop-f-preserved-then-not-is_sewn
 loop-f-preserved-then-not-is_sewn c =
@@ -63,23 +39,10 @@ label_face-requires c =
           (arith, number_fits c.requires.0 c.requires.1 c.loop-f-test.true c.loop-f.invariant c.field.ensures (sym c.is_sewn.ensures ∙ c.if-not-is_sewn.false), c.requires.3),
     )
 
-pub overflow_add-number : goal.overflow_add-number
-overflow_add-number c =
-    omega
-    (arith, number_fits c.requires.0 c.requires.1 c.loop-f-test.true c.loop-f.invariant c.field.ensures (sym c.is_sewn.ensures ∙ c.if-not-is_sewn.false), c.requires.3)
-
-pub loop-f-smaller : goal.loop-f-smaller
-loop-f-smaller c =
-    omega arith
-
 pub loop-f-preserved : goal.loop-f-preserved
 loop-f-preserved c =
     face_one c.requires.0 c.requires.1 c.loop-f-test.true c.loop-f.invariant c.field.ensures (sym c.is_sewn.ensures ∙ c.if-not-is_sewn.false)
     c.label_face.ensures.same c.label_face.ensures.labelled
-
-pub shape_of-block : goal.shape_of-block
-shape_of-block c =
-    c.loop-f.invariant.same.size
 
 pub returns : goal.returns
 returns c =

@@ -1,7 +1,7 @@
 use Prim.Native.Nat.{◌+◌, ◌*◌, ◌≤◌}
 use mathlib.Core.Path.{◌∙◌}
 use lib.ListN.{length}
-use Rattle.release.proofs.Removing.{length_moved, moved_start, count_le, moved_none, moved_one, moved_end, links_fit, one_move}
+use Rattle.release.proofs.Removing.{length_moved, moved_start, count_le, moved_none, moved_one, links_fit, one_move}
 use native.Mathlib.Omega.{arith}
 use Rattle.release.proofs.remove.compact.Goals as goal
 use Rattle.release.proofs.remove.compact.Goals.{then-marks-i-ne1, else-marks-i-ne1}
@@ -9,10 +9,6 @@ use Rattle.release.proofs.remove.compact.Goals.{then-marks-i-ne1, else-marks-i-n
 pub loop-i-init : goal.loop-i-init
 loop-i-init c =
     (omega arith, moved_start _ _ _)
-
-pub bounds-marks-i : goal.bounds-marks-i
-bounds-marks-i c =
-    omega arith
 
 pub move_record-requires : goal.move_record-requires
 move_record-requires c =
@@ -26,14 +22,6 @@ pub overflow_add-w : goal.overflow_add-w
 overflow_add-w c =
     omega
     (arith, count_le c.loop-i.invariant.1 (omega (arith, c.loop-i-test.true, c.requires.0.few, c.requires.0.size)), c.loop-i-test.true, c.requires.0.few)
-
-pub overflow_add-i : goal.overflow_add-i
-overflow_add-i c =
-    omega arith
-
-pub loop-i-smaller : goal.loop-i-smaller
-loop-i-smaller c =
-    omega arith
 
 pub loop-i-preserved : goal.loop-i-preserved
 loop-i-preserved c =
@@ -49,11 +37,3 @@ loop-i-preserved c =
         | else-marks-i-ne1 a ↦ moved_none v fits a.if-marks-i-ne1.false a.block-is a.w-is
       ],
     )
-
-pub shape_of-block : goal.shape_of-block
-shape_of-block c =
-    c.loop-i.invariant.1.len
-
-pub returns : goal.returns
-returns c =
-    moved_end c.loop-i.invariant.1 c.loop-i.invariant.0 c.loop-i-test.false

@@ -1,6 +1,6 @@
 use mathlib.Core.Path.{refl}
 use lib.ListN.{length-set}
-use Rattle.release.proofs.Removing.{ranking_start, kept_le, ranking_one, ranking_none, ranking_end}
+use Rattle.release.proofs.Removing.{ranking_start, kept_le, ranking_one, ranking_none}
 use native.Mathlib.Omega.{arith}
 use Rattle.release.proofs.remove.ranks.Goals as goal
 use Rattle.release.proofs.remove.ranks.Goals.{then-marks-p-ne1, else-marks-p-ne1}
@@ -9,29 +9,9 @@ pub loop-p-init : goal.loop-p-init
 loop-p-init c =
     (ranking_start _ _ _ c.requires.2, refl)
 
-pub offset_bounds-table-p : goal.offset_bounds-table-p
-offset_bounds-table-p c =
-    omega arith
-
-pub bounds-table-p : goal.bounds-table-p
-bounds-table-p c =
-    omega arith
-
-pub bounds-marks-p : goal.bounds-marks-p
-bounds-marks-p c =
-    omega arith
-
 pub overflow_add-kept : goal.overflow_add-kept
 overflow_add-kept c =
     omega (arith, kept_le c.loop-p.invariant.0 c.loop-p-test.true c.requires.0, c.loop-p-test.true, c.requires.0)
-
-pub overflow_add-p : goal.overflow_add-p
-overflow_add-p c =
-    omega arith
-
-pub loop-p-smaller : goal.loop-p-smaller
-loop-p-smaller c =
-    omega arith
 
 pub loop-p-preserved : goal.loop-p-preserved
 loop-p-preserved c = (
@@ -41,11 +21,3 @@ loop-p-preserved c = (
   ],
   simp length-set c.loop-p.invariant.1,
 )
-
-pub shape_of-table : goal.shape_of-table
-shape_of-table c =
-    c.loop-p.invariant.1
-
-pub returns : goal.returns
-returns c =
-    ranking_end c.loop-p.invariant.0 c.loop-p-test.false

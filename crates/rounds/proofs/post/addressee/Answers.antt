@@ -10,4 +10,4 @@ returns-in_default c =
 
 pub returns : goal.returns
 returns c =
-    goes_to c.args.message.now (sym c.in-Head.is ∙ c.read_head.ensures)
+    goes_to c.args.message.now (sym c.in-Some.is ∙ c.read_head.ensures)

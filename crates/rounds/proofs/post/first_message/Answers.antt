@@ -14,13 +14,13 @@ returns-in_default c =
 
 pub overflow_sub-bytes : goal.overflow_sub-bytes
 overflow_sub-bytes c =
-    let w = (took_group (sym c.in-Value.is ∙ c.read_group.ensures)).within in
+    let w = (took_group (sym c.in-Some.is ∙ c.read_group.ensures)).within in
     omega (arith, w)
 
 pub returns-then-n-bytes : goal.returns-then-n-bytes
 returns-then-n-bytes c =
-    first_length (took_group (sym c.in-Value.is ∙ c.read_group.ensures)) c.if-n-bytes.true
+    first_length (took_group (sym c.in-Some.is ∙ c.read_group.ensures)) c.if-n-bytes.true
 
 pub returns : goal.returns
 returns c =
-    cut_short (took_group (sym c.in-Value.is ∙ c.read_group.ensures)) c.if-n-bytes.false
+    cut_short (took_group (sym c.in-Some.is ∙ c.read_group.ensures)) c.if-n-bytes.false

@@ -1,12 +1,7 @@
-use Rattle.groups.proofs.Writing.{stored_length}
-use Rattle.savefile.proofs.Pieces.{lay_none, lay_within, lay_more, lay_all}
+use Rattle.savefile.proofs.Pieces.{lay_within, lay_more, lay_all}
 use Rattle.savefile.proofs.FileBytes.{darts_put}
 use native.Mathlib.Omega.{arith}
 use Rattle.savefile.proofs.put.put_darts.Goals as goal
-
-pub loop-i-init : goal.loop-i-init
-loop-i-init c =
-    lay_none _ _ _ _
 
 pub put_dart-past-requires : goal.put_dart-past-requires
 put_dart-past-requires c =
@@ -16,10 +11,6 @@ put_dart-past-requires c =
 pub loop-i-preserved : goal.loop-i-preserved
 loop-i-preserved c =
     lay_more c.loop-i.invariant c.loop-i-test.true c.put_dart-past.ensures
-
-pub shape_of-out : goal.shape_of-out
-shape_of-out c =
-    stored_length c.loop-i.invariant.stored
 
 pub returns : goal.returns
 returns c =

@@ -8,10 +8,10 @@ pub returns-then-commit-i : goal.returns-then-commit-i
 returns-then-commit-i c =
     word_short _ _ (omega arith)
 
-pub returns-in-Value : goal.returns-in-Value
-returns-in-Value c =
-    word_read _ _ _ (sym c.in-Value.is ∙ c.read_coordinate.ensures)
+pub returns-in-Some : goal.returns-in-Some
+returns-in-Some c =
+    word_read _ _ _ (sym c.in-Some.is ∙ c.read_coordinate.ensures)
 
-pub returns-in-Bad : goal.returns-in-Bad
-returns-in-Bad c =
-    word_read _ _ _ (sym c.in-Bad.is ∙ c.read_coordinate.ensures)
+pub returns-in-None : goal.returns-in-None
+returns-in-None c =
+    word_read _ _ _ (sym c.in-None.is ∙ c.read_coordinate.ensures)

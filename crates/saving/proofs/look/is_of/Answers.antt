@@ -1,10 +1,10 @@
 -- `saving::look::is_of` meets its contract. Assumes nothing.
 use Rattle.saving.proofs.look.is_of.Goals as goal
 
-pub returns-in-File : goal.returns-in-File
-returns-in-File c =
-    rw c.in-File.is c.same.ensures
+pub returns-in-Some : goal.returns-in-Some
+returns-in-Some c =
+    rw c.in-Some.is c.same.ensures
 
-pub returns-in-Nothing : goal.returns-in-Nothing
-returns-in-Nothing c =
-    rw c.in-Nothing.is
+pub returns-in-None : goal.returns-in-None
+returns-in-None c =
+    rw c.in-None.is

@@ -4,10 +4,10 @@ use Rattle.saving.proofs.Contents.{filed, not_filed}
 use Rattle.saving.proofs.Entering.{filed_entry, known_none}
 use Rattle.saving.proofs.prepare.entry_in_room.Goals as goal
 
-pub returns-in-Bytes : goal.returns-in-Bytes
-returns-in-Bytes c =
-    filed_entry (filed (sym c.in-Bytes.is) c.put_file.ensures) c.entry_of.ensures
+pub returns : goal.returns
+returns c =
+    filed_entry (filed (sym c.in_ok-n.was) c.put_file.ensures) c.entry_of.ensures
 
-pub returns-in-Cannot : goal.returns-in-Cannot
-returns-in-Cannot c =
-    known_none c.args.mesh.now c.args.b (not_filed c.args.mesh.now c.args.b (sym c.in-Cannot.is) c.put_file.ensures c.requires)
+pub returns-in_err-n : goal.returns-in_err-n
+returns-in_err-n c =
+    rw c.from_residual.ensures (known_none c.args.mesh.now c.args.b (not_filed c.args.mesh.now c.args.b (sym c.in_err-n.was) c.put_file.ensures c.requires))

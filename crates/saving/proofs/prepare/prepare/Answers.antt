@@ -3,13 +3,13 @@ use mathlib.Core.Path.{sym}
 use Rattle.saving.proofs.Prepares.{wrote, could_not, renames, removes, keeps, rests}
 use Rattle.saving.proofs.prepare.prepare.Goals as goal
 
-pub returns-in-Bytes : goal.returns-in-Bytes
-returns-in-Bytes c =
-    wrote c.in-Write.is (sym c.in-Bytes.is) c.put_contents.ensures c.name_of.ensures c.no_name.ensures
+pub returns-in-Some : goal.returns-in-Some
+returns-in-Some c =
+    wrote c.in-Write.is (sym c.in-Some.is) c.put_contents.ensures c.name_of.ensures c.no_name.ensures
 
-pub returns-in-Cannot : goal.returns-in-Cannot
-returns-in-Cannot c =
-    could_not c.in-Write.is (sym c.in-Cannot.is) c.put_contents.ensures c.no_name-in-Cannot.ensures c.no_name-in-Cannot-2.ensures
+pub returns-in-None : goal.returns-in-None
+returns-in-None c =
+    could_not c.in-Write.is (sym c.in-None.is) c.put_contents.ensures c.no_name-in-None.ensures c.no_name-in-None-2.ensures
 
 pub returns-in-Rename : goal.returns-in-Rename
 returns-in-Rename c =

@@ -20,7 +20,7 @@ put_entry-past-requires c =
 
 pub loop-b-preserved : goal.loop-b-preserved
 loop-b-preserved c =
-    enter_more c.loop-b.invariant c.loop-b-test.true (sym c.in-Is.is) c.entry_of_block.ensures c.put_entry-past.ensures
+    enter_more c.loop-b.invariant c.loop-b-test.true (sym c.in-Some.is) c.entry_of_block.ensures c.put_entry-past.ensures
 
 pub shape_of-out : goal.shape_of-out
 shape_of-out c =

@@ -7,7 +7,3 @@ use Rattle.saving.proofs.prepare.put_entries.Given as goal
 abbrev pub invariant-loop-b : goal.invariant-loop-b
 invariant-loop-b l =
     Entering l.mesh l.k l.initial.out l.out l.past l.b
-
-abbrev pub decreases-loop-b : goal.decreases-loop-b
-decreases-loop-b l =
-    l.k - l.b

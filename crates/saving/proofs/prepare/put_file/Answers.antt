@@ -6,14 +6,8 @@ pub returns-then-mesh-b : goal.returns-then-mesh-b
 returns-then-mesh-b c =
     no_file _ _ _ c.if-mesh-b.true
 
-pub returns-in-Served : goal.returns-in-Served
-returns-in-Served c =
+pub returns : goal.returns
+returns c =
     let m = c.args.mesh.now in
     let b = c.args.b in
-    rw c.in-Served.is at (saved m b c.save_file.result (rw c.part_of.ensures at c.save_file.ensures))
-
-pub returns-in-Refused : goal.returns-in-Refused
-returns-in-Refused c =
-    let m = c.args.mesh.now in
-    let b = c.args.b in
-    rw c.in-Refused.is at (saved m b c.save_file.result (rw c.part_of.ensures at c.save_file.ensures))
+    rw c.ok.ensures.value (saved m b c.save_file.result (rw c.part_of.ensures at c.save_file.ensures))

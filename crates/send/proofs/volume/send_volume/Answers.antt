@@ -15,7 +15,7 @@ leaves-requires c =
 
 pub put_messages-requires : goal.put_messages-requires
 put_messages-requires c =
-    let d = departs_told c.args.limits.volume c.args.block.now c.args.to c.args.serial _ _ _ _ _ c.leaves.ensures.answer c.in-Volume.is in
+    let d = departs_told c.args.limits.volume c.args.block.now c.args.to c.args.serial _ _ _ _ _ c.leaves.ensures.answer c.in-Ok.is in
     record {
       block_value = c.requires.block_len.2;
       surveyed = d.survey;
@@ -23,16 +23,16 @@ put_messages-requires c =
       labels_value = c.requires.labels_value;
     }
 
-pub returns-in-Refused : goal.returns-in-Refused
-returns-in-Refused c =
+pub returns-in-Err : goal.returns-in-Err
+returns-in-Err c =
     let block = c.args.block.now in
     let to = c.args.to in
     let serial = c.args.serial in
     refused_leaving block _ to serial (limits_of c.args.limits) c.requires.block_len.0 c.requires.block_len.1
-    (refused_told c.args.limits.volume block to serial _ _ _ _ _ c.leaves.ensures.answer c.in-Refused.is)
+    (refused_told c.args.limits.volume block to serial _ _ _ _ _ c.leaves.ensures.answer c.in-Err.is)
 
-pub returns-in-Volume : goal.returns-in-Volume
-returns-in-Volume c =
-    let d = departs_told c.args.limits.volume c.args.block.now c.args.to c.args.serial _ _ _ _ _ c.leaves.ensures.answer c.in-Volume.is in
+pub returns-in-Ok : goal.returns-in-Ok
+returns-in-Ok c =
+    let d = departs_told c.args.limits.volume c.args.block.now c.args.to c.args.serial _ _ _ _ _ c.leaves.ensures.answer c.in-Ok.is in
     sent c.args.block.now _ c.args.to c.args.serial (limits_of c.args.limits) c.requires.block_len.0 c.requires.block_len.1
     c.requires.block_len.2 d c.put_messages.ensures

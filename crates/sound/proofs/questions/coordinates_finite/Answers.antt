@@ -2,16 +2,11 @@ use mathlib.Core.Path.{refl, ◌∙◌}
 use Rattle.columns.proofs.Points.{finite_is}
 use Rattle.sound.proofs.Passes.{going_none, going_no, going_more, going_end}
 use native.Mathlib.Omega.{arith}
-use borrow.Author.Rules.{rules}
 use Rattle.sound.proofs.questions.coordinates_finite.Goals as goal
 
 pub loop-i-init : goal.loop-i-init
 loop-i-init c =
     (going_none _ _, refl)
-
-pub finite_at-requires : goal.finite_at-requires
-finite_at-requires c =
-    (omega (arith, c.loop-i-test.true, c.loop-i.invariant.1, c.requires.1), search rules)
 
 pub returns-then-not-finite_at : goal.returns-then-not-finite_at
 returns-then-not-finite_at c =

@@ -1,7 +1,6 @@
 -- `sound::questions::coordinates_finite` meets its contract: the points below i are finite.
 -- Assumes nothing.
 use mathlib.Core.Path.{◌≡◌}
-use Prim.Native.Nat.{◌-◌}
 use lib.ListN.{get_or}
 use Rattle.columns.proofs.Points.{finite_test}
 use Rattle.sound.proofs.Passes.{Going}
@@ -10,7 +9,3 @@ use Rattle.sound.proofs.questions.coordinates_finite.Given as goal
 abbrev pub invariant-loop-i : goal.invariant-loop-i
 invariant-loop-i l =
     Going (finite_test l.block) (get_or l.block 2 0) l.i × (l.n ≡ get_or l.block 2 0)
-
-abbrev pub decreases-loop-i : goal.decreases-loop-i
-decreases-loop-i l =
-    l.n - l.i

@@ -1,6 +1,6 @@
 use mathlib.Core.Path.{refl}
 use native.Mathlib.Omega.{arith}
-use Rattle.sound.proofs.Passes.{gather_none, gather_more, gather_end}
+use Rattle.sound.proofs.Passes.{gather_none, gather_more}
 use Rattle.sound.proofs.questions.gather.Goals as goal
 
 pub loop-i-init : goal.loop-i-init
@@ -10,11 +10,3 @@ loop-i-init c =
 pub loop-i-preserved : goal.loop-i-preserved
 loop-i-preserved c =
     (gather_more c.loop-i.invariant.0 c.loop-i-test.true c.put_label-c.ensures, omega (arith, c.put_label-c.auto.keys, c.loop-i.invariant.1))
-
-pub shape_of-keys : goal.shape_of-keys
-shape_of-keys c =
-    c.loop-i.invariant.1
-
-pub returns : goal.returns
-returns c =
-    gather_end c.loop-i.invariant.0 c.loop-i-test.false

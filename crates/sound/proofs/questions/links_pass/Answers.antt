@@ -1,6 +1,6 @@
 use mathlib.Core.Path.{refl, ◌∙◌}
 use lib.ListN.{length-set}
-use Rattle.sound.proofs.Passes.{passing_none, test_no, mark_no, passing_more, passing_end, as_links, link_below}
+use Rattle.sound.proofs.Passes.{passing_none, passing_more, passing_end, as_links, link_below}
 use native.Mathlib.Omega.{arith}
 use Rattle.sound.proofs.questions.links_pass.Goals as goal
 
@@ -8,26 +8,10 @@ pub loop-i-init : goal.loop-i-init
 loop-i-init c =
     (passing_none _ _ _ _ c.requires.2 c.requires.3, refl)
 
-pub shape_of-seen-then-not-link_at : goal.shape_of-seen-then-not-link_at
-shape_of-seen-then-not-link_at c =
-    c.loop-i.invariant.1
-
-pub returns-then-not-link_at : goal.returns-then-not-link_at
-returns-then-not-link_at c =
-    as_links (test_no c.loop-i.invariant.0 c.loop-i-test.true c.link_at.ensures c.if-not-link_at.true)
-
 pub bounds-seen-a : goal.bounds-seen-a
 bounds-seen-a c =
     let lt = link_below _ _ _ c.link_at.ensures c.if-not-link_at.false in
     omega (arith, lt, c.field-a.ensures, c.loop-i.invariant.0.marks.len)
-
-pub shape_of-seen-then-seen-a-ne0 : goal.shape_of-seen-then-seen-a-ne0
-shape_of-seen-then-seen-a-ne0 c =
-    c.loop-i.invariant.1
-
-pub returns-then-seen-a-ne0 : goal.returns-then-seen-a-ne0
-returns-then-seen-a-ne0 c =
-    as_links (mark_no c.loop-i.invariant.0 c.loop-i-test.true c.field-a.ensures refl c.if-seen-a-ne0.true)
 
 pub bounds-seen-a-in-loop-i : goal.bounds-seen-a-in-loop-i
 bounds-seen-a-in-loop-i c =
@@ -40,10 +24,6 @@ loop-i-preserved c =
       passing_more c.loop-i.invariant.0 c.loop-i-test.true c.link_at.ensures c.if-not-link_at.false lt c.field-a.ensures c.if-seen-a-ne0.false,
       length-set c.loop-i.seen _ _ ∙ c.loop-i.invariant.1,
     )
-
-pub shape_of-seen : goal.shape_of-seen
-shape_of-seen c =
-    c.loop-i.invariant.1
 
 pub returns : goal.returns
 returns c =

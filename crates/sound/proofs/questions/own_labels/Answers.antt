@@ -1,5 +1,5 @@
 use mathlib.Core.Path.{refl, ◌∙◌}
-use Rattle.sound.proofs.Passes.{going_none, going_no, going_more, going_end}
+use Rattle.sound.proofs.Passes.{going_none, going_no, going_more}
 use Rattle.sound.proofs.questions.own_labels.Goals as goal
 
 pub loop-i-init : goal.loop-i-init
@@ -18,7 +18,3 @@ loop-i-preserved c = (
   c.loop-i.invariant.1,
   c.loop-i.invariant.2,
 )
-
-pub returns : goal.returns
-returns c =
-    going_end c.loop-i.invariant.0 c.loop-i-test.false

@@ -1,4 +1,7 @@
 use mathlib.Core.Path.{refl, sym, ap, ◌∙◌}
+use mathlib.Core.List.{List}
+use Prim.Native.Nat.{ℕ, ◌<◌}
+use lib.ListN.{length}
 use Rattle.model.specs.Lists.{tab}
 use Rattle.model.specs.Cells.{faces, start_of}
 use Rattle.model.specs.Image.{column}
@@ -7,6 +10,7 @@ use Rattle.stats.specs.BlockCounts.{critical_at}
 use Rattle.stats.proofs.CriticalFaces.{order_few, first_dart}
 use native.Mathlib.Omega.{arith}
 use Rattle.stats.proofs.critical.count_critical.Goals as goal
+use Rattle.stats.proofs.critical.count_critical.Goals.{then-is_critical, else-is_critical}
 
 pub loop-f-init : goal.loop-f-init
 loop-f-init c =
@@ -29,47 +33,33 @@ bounds-out-i c =
     omega
     (arith, (first_dart c.requires.0 c.requires.1 c.loop-f.f c.loop-f-test.true).0, (order_few c.requires.0 c.requires.1).0, c.requires.0.few, c.requires.1.out_size)
 
-pub overflow_add-f : goal.overflow_add-f
-overflow_add-f c =
-    omega (arith, c.loop-f-test.true, (order_few c.requires.0 c.requires.1).1, c.requires.0.few)
-
 pub is_critical-requires : goal.is_critical-requires
 is_critical-requires c =
     omega (arith, (first_dart c.requires.0 c.requires.1 c.loop-f.f c.loop-f-test.true).2, c.requires.0.size)
-
-pub loop-f-smaller-then-not-is_critical : goal.loop-f-smaller-then-not-is_critical
-loop-f-smaller-then-not-is_critical c =
-    omega (arith, c.loop-f-test.true)
-
-pub loop-f-preserved-then-not-is_critical : goal.loop-f-preserved-then-not-is_critical
-loop-f-preserved-then-not-is_critical c =
-    let at = (first_dart c.requires.0 c.requires.1 c.loop-f.f c.loop-f-test.true).1 in (
-      omega (arith, c.loop-f-test.true),
-      omega (arith, c.loop-f.invariant.1),
-      count_skip (λ l. critical_at c.args.block.now (start_of l))
-          (faces (column c.args.block.now 1) (tab (λ p. p) c.args.n)) c.loop-f.f _ c.loop-f.invariant.2
-          (omega (arith, c.loop-f-test.true, c.requires.1.count_is))
-          (sym (c.is_critical.ensures ∙ ap (critical_at c.args.block.now) at) ∙ c.if-not-is_critical.true),
-    )
 
 pub overflow_add-critical : goal.overflow_add-critical
 overflow_add-critical c =
     omega (arith, c.loop-f.invariant.1, c.loop-f-test.true, (order_few c.requires.0 c.requires.1).1, c.requires.0.few)
 
-pub loop-f-smaller : goal.loop-f-smaller
-loop-f-smaller c =
-    omega (arith, c.loop-f-test.true)
-
 pub loop-f-preserved : goal.loop-f-preserved
 loop-f-preserved c =
-    let at = (first_dart c.requires.0 c.requires.1 c.loop-f.f c.loop-f-test.true).1 in (
-      omega (arith, c.loop-f-test.true),
-      omega (arith, c.loop-f.invariant.1),
-      count_one (λ l. critical_at c.args.block.now (start_of l))
-          (faces (column c.args.block.now 1) (tab (λ p. p) c.args.n)) c.loop-f.f _ c.loop-f.invariant.2
-          (omega (arith, c.loop-f-test.true, c.requires.1.count_is))
-          (sym (c.is_critical.ensures ∙ ap (critical_at c.args.block.now) at) ∙ c.if-not-is_critical.false),
-    )
+    let at = (first_dart c.requires.0 c.requires.1 c.loop-f.f c.loop-f-test.true).1 in
+    let test = λ (l : List ℕ). critical_at c.args.block.now (start_of l) in
+    let all = faces (column c.args.block.now 1) (tab (λ p. p) c.args.n) in
+    let below : c.loop-f.f < length all = omega (arith, c.loop-f-test.true, c.requires.1.count_is) in
+    let asked = c.is_critical.ensures ∙ ap (critical_at c.args.block.now) at in
+    elim c.if-is_critical.branch [
+      | then-is_critical w ↦ (
+        omega (arith, c.loop-f-test.true),
+        omega (arith, w.critical-is, c.loop-f.invariant.1),
+        w.critical-is ∙ count_one test all c.loop-f.f _ c.loop-f.invariant.2 below (sym asked ∙ w.if-is_critical.true),
+      )
+      | else-is_critical w ↦ (
+        omega (arith, c.loop-f-test.true),
+        omega (arith, w.critical-is, c.loop-f.invariant.1),
+        w.critical-is ∙ count_skip test all c.loop-f.f _ c.loop-f.invariant.2 below (sym asked ∙ w.if-is_critical.false),
+      )
+    ]
 
 pub returns : goal.returns
 returns c =

@@ -1,7 +1,7 @@
 -- `stats::critical::count_critical` meets its contract. The loop's invariant: the count of the faces before f that are critical.
--- The measure is what is left of the faces. Assumes nothing.
+-- Assumes nothing.
 use mathlib.Core.Path.{◌≡◌}
-use Prim.Native.Nat.{◌-◌, ◌≤◌}
+use Prim.Native.Nat.{◌≤◌}
 use lib.ListN.{length, take}
 use Rattle.model.specs.Lists.{keep, tab}
 use Rattle.model.specs.Cells.{faces, start_of}
@@ -13,7 +13,3 @@ abbrev pub invariant-loop-f : goal.invariant-loop-f
 invariant-loop-f l =
     (l.f ≤ l.count) × (l.critical ≤ l.f) ×
     (l.critical ≡ length (keep (λ w. critical_at l.block (start_of w)) (take l.f (faces (column l.block 1) (tab (λ p. p) l.n)))))
-
-abbrev pub decreases-loop-f : goal.decreases-loop-f
-decreases-loop-f l =
-    l.count - l.f

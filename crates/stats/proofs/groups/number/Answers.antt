@@ -20,14 +20,6 @@ pub bounds-groups-p : goal.bounds-groups-p
 bounds-groups-p c =
     omega (arith, c.requires.joined.0.linked.few, c.loop-p.invariant.0.queue.len_g)
 
-pub overflow_add-p : goal.overflow_add-p
-overflow_add-p c =
-    omega (arith, c.requires.joined.0.linked.few, c.loop-p-test.true)
-
-pub loop-p-smaller-then-groups-p-ne0 : goal.loop-p-smaller-then-groups-p-ne0
-loop-p-smaller-then-groups-p-ne0 c =
-    omega (arith, c.loop-p-test.true)
-
 pub loop-p-preserved-then-groups-p-ne0 : goal.loop-p-preserved-then-groups-p-ne0
 loop-p-preserved-then-groups-p-ne0 c =
     let next = through_skip c.requires.joined.0 c.loop-p.invariant.0 c.loop-p-test.true (omega (arith, c.if-groups-p-ne0.true)) in
@@ -51,14 +43,6 @@ add_group-tail-requires c =
       joined = (c.requires.joined.0, c.loop-p-test.true, omega arith);
       queued = (c.loop-p.invariant.0.queue, c.loop-p.invariant.0.shut, c.if-groups-p-ne0.false);
     }
-
-pub overflow_add-p-in-loop-p : goal.overflow_add-p-in-loop-p
-overflow_add-p-in-loop-p c =
-    omega (arith, c.requires.joined.0.linked.few, c.loop-p-test.true)
-
-pub loop-p-smaller : goal.loop-p-smaller
-loop-p-smaller c =
-    omega (arith, c.loop-p-test.true)
 
 pub loop-p-preserved : goal.loop-p-preserved
 loop-p-preserved c = (

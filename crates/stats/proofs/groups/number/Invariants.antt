@@ -1,7 +1,6 @@
 -- `stats::groups::number` meets its contract. The loop's invariant (`Through`): the groups of the places below p have their numbers, and no
--- other place is in a group. The measure is what is left of the places. Assumes nothing.
+-- other place is in a group. Assumes nothing.
 use mathlib.Core.Path.{◌≡◌}
-use Prim.Native.Nat.{◌-◌}
 use lib.ListN.{length}
 use Rattle.stats.proofs.Numbering.{Through}
 use Rattle.stats.proofs.groups.number.Given as goal
@@ -10,7 +9,3 @@ abbrev pub invariant-loop-p : goal.invariant-loop-p
 invariant-loop-p l =
     Through l.third l.block l.groups l.firsts l.order l.count l.tail l.p × (length l.groups ≡ length l.initial.groups) ×
     (length l.firsts ≡ length l.initial.firsts) × (length l.order ≡ length l.initial.order)
-
-abbrev pub decreases-loop-p : goal.decreases-loop-p
-decreases-loop-p l =
-    l.n - l.p

@@ -14,18 +14,10 @@ start_at-p-requires c =
     let s = c.requires.count_started.0 in
     (omega (arith, s.few), omega (arith, s.starts_there), s.index_below _ c.loop-f-test.true, s.index_there _ c.loop-f-test.true)
 
-pub overflow_add-f : goal.overflow_add-f
-overflow_add-f c =
-    omega (arith, c.loop-f-test.true, c.requires.count_started.0.few)
-
 pub is_critical-requires : goal.is_critical-requires
 is_critical-requires c =
     let below = face_below c.requires.count_started.0 c.loop-f.invariant c.loop-f-test.true c.start_at-p.ensures in
     omega (arith, c.requires.linked.0.size)
-
-pub loop-f-smaller-then-not-is_critical : goal.loop-f-smaller-then-not-is_critical
-loop-f-smaller-then-not-is_critical c =
-    omega (arith, c.loop-f-test.true)
 
 pub loop-f-preserved-then-not-is_critical : goal.loop-f-preserved-then-not-is_critical
 loop-f-preserved-then-not-is_critical c =
@@ -50,10 +42,6 @@ add_one-requires c =
     let few = faces_few c.requires.count_started.0 c.loop-f.invariant in
     add_ready c.requires.linked.1 c.requires.linked.0.few below c.loop-f.invariant.counted few c.border_word.result _
     (omega (arith, c.border_word.ensures)) c.word_at.ensures
-
-pub loop-f-smaller : goal.loop-f-smaller
-loop-f-smaller c =
-    omega (arith, c.loop-f-test.true)
 
 pub loop-f-preserved : goal.loop-f-preserved
 loop-f-preserved c =

@@ -18,14 +18,6 @@ pub add_one-requires : goal.add_one-requires
 add_one-requires c =
     darts_ready c.requires.1 c.requires.0.few c.loop-p.invariant c.loop-p-test.true c.word_at.ensures
 
-pub overflow_add-p : goal.overflow_add-p
-overflow_add-p c =
-    omega (arith, c.loop-p-test.true, c.requires.0.few)
-
-pub loop-p-smaller : goal.loop-p-smaller
-loop-p-smaller c =
-    omega (arith, c.loop-p-test.true)
-
 pub loop-p-preserved : goal.loop-p-preserved
 loop-p-preserved c =
     darts_more c.requires.1 c.requires.0.few c.loop-p.invariant c.loop-p-test.true c.word_at.ensures c.add_one.ensures

@@ -29,14 +29,6 @@ add_one-requires c =
     add_ready c.requires.linked.1 c.requires.linked.0.few below c.loop-f.invariant.counted (faces_few c.requires.count_started c.loop-f.invariant) 2 _
     (omega arith) c.word_at.ensures
 
-pub overflow_add-f : goal.overflow_add-f
-overflow_add-f c =
-    omega (arith, c.loop-f-test.true, c.requires.count_started.few)
-
-pub loop-f-smaller : goal.loop-f-smaller
-loop-f-smaller c =
-    omega (arith, c.loop-f-test.true)
-
 pub loop-f-preserved : goal.loop-f-preserved
 loop-f-preserved c =
     let below = face_below c.requires.count_started c.loop-f.invariant c.loop-f-test.true c.start_at-p.ensures in

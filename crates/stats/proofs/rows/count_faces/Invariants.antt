@@ -1,6 +1,5 @@
 -- `stats::rows::count_faces` meets its contract. The loop's invariant (`Faces`): the faces before f are counted.
--- The measure is what is left of the faces. Assumes nothing.
-use Prim.Native.Nat.{◌-◌}
+-- Assumes nothing.
 use Rattle.stats.specs.Counting.{cell_word}
 use Rattle.stats.proofs.CountLaws.{Faces, each}
 use Rattle.stats.proofs.rows.count_faces.Given as goal
@@ -8,7 +7,3 @@ use Rattle.stats.proofs.rows.count_faces.Given as goal
 abbrev pub invariant-loop-f : goal.invariant-loop-f
 invariant-loop-f l =
     Faces l.block (cell_word l.numbers 2) each l.initial.rows l.faces l.f l.rows
-
-abbrev pub decreases-loop-f : goal.decreases-loop-f
-decreases-loop-f l =
-    l.faces - l.f

@@ -18,14 +18,6 @@ pub bounds-rows-i : goal.bounds-rows-i
 bounds-rows-i c =
     omega (arith, c.loop-i.invariant.1.len)
 
-pub overflow_add-i : goal.overflow_add-i
-overflow_add-i c =
-    omega arith
-
-pub loop-i-smaller : goal.loop-i-smaller
-loop-i-smaller c =
-    omega arith
-
 pub loop-i-preserved : goal.loop-i-preserved
 loop-i-preserved c =
     (omega arith, heading_more c.loop-i.invariant.1 (omega arith) c.first_word.ensures)

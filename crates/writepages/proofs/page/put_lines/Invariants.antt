@@ -1,6 +1,5 @@
 -- `writepages::page::put_lines` meets its contract: the lines below i are stored, up to past; each has 81 bytes.
 -- Assumes nothing.
-use Prim.Native.Nat.{◌-◌}
 use Rattle.model.specs.Pages.{page_rows}
 use Rattle.savefile.proofs.Pieces.{Placing}
 use Rattle.writepages.proofs.PageParts.{lines_from}
@@ -9,7 +8,3 @@ use Rattle.writepages.proofs.page.put_lines.Given as goal
 abbrev pub invariant-loop-i : goal.invariant-loop-i
 invariant-loop-i l =
     Placing (lines_from l.block l.first) page_rows l.at l.initial.out l.out l.past l.i
-
-abbrev pub decreases-loop-i : goal.decreases-loop-i
-decreases-loop-i l =
-    page_rows - l.i

@@ -1,6 +1,5 @@
 -- `writepages::page::put_pages` meets its contract: the pages below k are stored, up to past; each has 4,860 bytes.
 -- Assumes nothing.
-use Prim.Native.Nat.{◌-◌}
 use Rattle.model.specs.Image.{block_in}
 use Rattle.model.specs.Pages.{paged, page}
 use Rattle.savefile.proofs.Pieces.{Placing}
@@ -9,7 +8,3 @@ use Rattle.writepages.proofs.page.put_pages.Given as goal
 abbrev pub invariant-loop-k : goal.invariant-loop-k
 invariant-loop-k l =
     Placing (page (paged (block_in l.block))) l.pages 0 l.initial.out l.out l.past l.k
-
-abbrev pub decreases-loop-k : goal.decreases-loop-k
-decreases-loop-k l =
-    l.pages - l.k

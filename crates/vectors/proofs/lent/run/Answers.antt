@@ -1,6 +1,0 @@
-use mathlib.Core.Path.{refl}
-use Rattle.vectors.proofs.lent.run.Goals as goal
-
-pub loop-left-init : goal.loop-left-init
-loop-left-init c =
-    refl

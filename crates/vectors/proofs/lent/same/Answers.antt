@@ -1,9 +1,0 @@
-use Rattle.vectors.proofs.lent.same.Goals as goal
-
-pub loop-p-init : goal.loop-p-init
-loop-p-init c =
-    tt
-
-pub loop-p-preserved : goal.loop-p-preserved
-loop-p-preserved c =
-    tt
