@@ -90,8 +90,8 @@ fn first_asked(
     None
 }
 
-// The first volume of at most `left` darts that may go, by its least serial. `sizes` has the size of each volume at its least place. One that may not go is
-// struck off.
+// The first volume of at most `left` darts that may go, by its least serial. `sizes` has the size of each volume at its least place. One
+// that may not go is struck off.
 pub fn first_leaving(block: &[u64], left: usize, sizes: &mut [usize]) -> Option<u64>
     requires { (holds_block block.now ≡ true) × (count_in block.now ≤ length sizes.old) }
     ensures candidate { result ≡ candidate_of (going (at sizes.old) block.now left) }

@@ -1,7 +1,6 @@
 // The cells of a block, a line for each: least serial, darts, faces, critical faces by the other block, mean of the corners.
 #![tactic(auto)]
 
-use stats::rows::Told;
 use system::say;
 
 // Word i; 0 past the end.
@@ -101,9 +100,9 @@ fn show_rows(block: &[u64], count: usize, rows: &[u64]) {
 // The cells of a block's memory, by way of lent rows.
 pub fn show(block: &[u64], rows: &mut [u64]) {
     match stats::rows::cell_figures(block, rows) {
-        Told::Cells(count) if count <= rows.len() / 19 => {
+        Ok(count) if count <= rows.len() / 19 => {
             show_rows(block, count, &rows[..count * 19]);
         }
-        Told::Cells(_) | Told::Short | Told::Unsound => {}
+        Ok(_) | Err(_) => {}
     }
 }

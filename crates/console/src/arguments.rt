@@ -45,7 +45,7 @@ fn in_front(rt: HostRuntime) -> usize {
     }
 }
 
-// The descriptor that the status goes to, 3 to 9.
+// The descriptor that the status goes to, 3 to 9; none where none is asked for, or another word.
 pub fn status_descriptor(rt: HostRuntime) -> Option<i32> {
     if in_front(rt) == 0 {
         return None;

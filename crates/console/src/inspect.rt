@@ -184,7 +184,7 @@ pub fn show_balance(
         return Err(Told);
     }
     let k = mesh.len() / Header::WORDS;
-    let mean = b.mean as u64;
+    let mean = u64::from(b.mean);
     let surplus = b.surplus;
     say::text(when);
     show_counts(mean, &surplus, k);

@@ -82,7 +82,8 @@ pub fn volume_leaves(
     })
 }
 
-// What the volume of the dart with this serial has, if it may go to another block: 9 to 14, or the first whose answer is no. What the arrays hold then is what `volume_leaves` says.
+// What the volume of the dart with this serial has, if it may go to another block: 9 to 14, or the first whose answer is no. What the
+// arrays hold then is what `volume_leaves` says.
 pub fn leaves(
     block: &[u64],
     limits: Limits,

@@ -7,9 +7,7 @@ use memory::header::Header;
 pub fn from_file(viewers: u32, b: usize, file: &[u8], block: &mut [u64]) -> Answer {
     if viewers::has(viewers, b as u64) {
         let mut own = [0u64; Header::VIEWER_WORDS];
-        if let Err(r) = viewer::read_file(file, &mut own) {
-            return Err(r);
-        }
+        viewer::read_file(file, &mut own)?;
     }
     readfile::read_file(file, block)
 }

@@ -17,7 +17,7 @@ pub enum Task {
     Add(usize),
 }
 
-// The memory that is lent to a command: for requests or moves and their outcomes, for a basin, and for what is made of it.
+// The memory that is lent to a command: for requests, moves or rows of cells, and their outcomes, for a basin, and for what is made of it.
 #[derive(Drop)]
 pub struct Lent<'a> {
     pub requests: &'a mut [u64],

@@ -57,7 +57,7 @@ fn read_darts(
     Some((size as u64, p))
 }
 
-// A face whose start has index `start`: its size, then its darts. Bad too where the message then has too many.
+// A face whose start has index `start`: its size, then its darts. None too where the message then has too many.
 fn read_face(
     s: &[u8],
     at: usize,

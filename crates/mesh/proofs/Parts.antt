@@ -1,7 +1,7 @@
 -- The parts of a mesh, and what the questions 1, 2 and 23 test of them. Assumes nothing.
 use mathlib.Core.Path.{◌≡◌, refl, sym, ap, ◌∙◌}
 use mathlib.Core.Bool.{Bool, true, false, ◌&&◌}
-use mathlib.Core.List.{List, map}
+use mathlib.Core.List.{List, [], ◌∷◌, map}
 use Prim.Native.Nat.{ℕ, zero, suc, ◌+◌, ◌*◌, ◌-◌, ◌/◌, ◌≤◌, ◌<◌}
 use native.Mathlib.Omega.{arith}
 use lib.Dec.{leb, eqb}
@@ -15,6 +15,7 @@ use Rattle.model.specs.Values.{Block}
 use Rattle.model.specs.Sound.{numbered_from, blocks_right}
 use Rattle.model.specs.Image.{words, block_in}
 use Rattle.model.specs.Calls.{memories, mesh_lent, scratch_entries}
+use Rattle.std.specs.List.{list_all, range_with_len}
 use Rattle.columns.specs.Columns.{all_below}
 use Rattle.columns.proofs.Below.{below_at, at_below, below_none, below_step, all_is}
 use Rattle.mesh.specs.Parts.{block_count, part, sound_memory, number_test}
@@ -75,6 +76,24 @@ module _ (m s : List ℕ) where
   lent_zeros e f g = all_three (eqb (length m / words * words) (length m)) (eqb (length s) scratch_entries) (all (eqb 0) s) (eq-eqb _ _ e) (eq-eqb _ _ f) g
 
 -- 2
+-- `all` over a range
+all_same : (t : ℕ → Bool) (l : List ℕ) → list_all t l ≡ all t l
+all_same t [] = refl
+all_same t (x ∷ l) = ap (λ (b : Bool). t x && b) (all_same t l)
+
+range_tab : (a n : ℕ) → range_with_len a n ≡ tab (λ i. a + i) n
+range_tab a zero = refl
+range_tab a (suc n) =
+    let first : a ≡ a + 0 = omega arith in
+    let rest : (i : ℕ) → a + 1 + i ≡ a + suc i = λ i. omega arith in
+    let more = range_tab (a + 1) n ∙ ap (λ (f : ℕ → ℕ). tab f n) (λ k i. rest i k) in
+    λ k. first k ∷ more k
+
+pub range_all : (t : ℕ → Bool) (n : ℕ) → list_all t (range_with_len 0 n) ≡ all_below t n
+range_all t n =
+    let own : (i : ℕ) → 0 + i ≡ i = λ i. omega arith in
+    all_same t (range_with_len 0 n) ∙ ap (all t) (range_tab 0 n ∙ ap (λ (f : ℕ → ℕ). tab f n) (λ k i. own i k)) ∙ sym (all_is t (λ i. i) n)
+
 abbrev pub sound_test : ℕ → List ℕ → ℕ → Bool
 sound_test viewers m i = sound_memory viewers (part m i)
 

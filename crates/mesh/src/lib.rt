@@ -18,7 +18,7 @@ use memory::header::{Header, Limits};
 fn zeros(scratch: &[u64]) -> bool
     ensures { result ≡ all (eqb 0) scratch.now }
 {
-    // The entries before `word` are zero, if ok.
+    // The entries before `word` are zero, if ok; with no branch, so that many are looked at at once.
     let mut ok = true;
     for word in scratch {
         ok = ok & (*word == 0);
@@ -84,13 +84,7 @@ pub fn all_sound(mesh: &[u64], viewers: u32) -> bool
     ensures { result ≡ all (sound_memory viewers) (memories mesh.now) }
 {
     let k = mesh.len() / Header::WORDS;
-    // The blocks below i are sound.
-    for i in 0..k {
-        if !sound_at(mesh, viewers, i) {
-            return false;
-        }
-    }
-    true
+    (0..k).all(|i| sound_at(mesh, viewers, i))
 }
 
 // Whether each of k blocks has its place as its number.
@@ -98,12 +92,7 @@ fn numbered(mesh: &[u64], k: usize) -> bool
     requires { k ≡ block_count mesh.now }
     ensures { result ≡ all_below (number_test mesh.now) k }
 {
-    // The blocks below i are numbered in order, if ok.
-    let mut ok = true;
-    for i in 0..k {
-        ok = ok & (mesh[i * Header::WORDS] == i as u64);
-    }
-    ok
+    (0..k).all(|i| mesh[i * Header::WORDS] == i as u64)
 }
 
 // 23: one block to 16, numbered in order.

@@ -1,5 +1,5 @@
 -- Serials replaced by places, dart by dart; a block with serials becomes its image. Assumes nothing.
-use Rattle.std.specs.Prelude.{None, Option, Some}
+use Rattle.std.specs.Prelude.{None, Option, Some, MatchOption}
 use Rattle.std.proofs.Common.{◌≡◌, ℕ, ◌+◌, ◌*◌, ◌<◌, ◌≤◌, true, false, List, [], ◌∷◌, ◌++◌, length, get_or, sym, refl, ap, ◌∙◌, ⊎_elim, add-one, arith}
 use Rattle.laws.specs.Order.{Ascending}
 use Rattle.laws.proofs.Tables.{length_tab, getD_tab, tab_cong, index_place, index_none}
@@ -21,11 +21,11 @@ module _ (s : ℕ → ℕ) (n x : ℕ) where
   pub place_is : Ascending n s → (p : ℕ) → p < n → s p ≡ x → p ≡ index_of x (tab s n)
   place_is a p h e = sym (index_place s n p a h) ∙ ap (λ (y : ℕ). index_of y (tab s n)) e
 
-  pub place_found : Ascending n s → {f : Option Place} {p : Place} → f ≡ place_in s n x → f ≡ Some p → p.0 ≡ index_of x (tab s n)
-  place_found a {f} {p} h e = let w = place_at s n x (sym h ∙ e) in place_is a p.0 w.0 w.1
-
-  pub no_place : {f : Option Place} → f ≡ place_in s n x → f ≡ None → n ≡ index_of x (tab s n)
-  no_place h e = sym (index_none s n x (place_nothing s n x (sym h ∙ e)))
+  -- the place that is found, and n where none is
+  pub place_or : Ascending n s → (f : Option Place) {r : ℕ} {Gives : Place → Type 0} → f ≡ place_in s n x → MatchOption f (r ≡ n) Gives → ((p : Place) → Gives p → r ≡ p.0)
+      → r ≡ index_of x (tab s n)
+  place_or a (Some p) h e number = let w = place_at s n x (sym h) in number p e ∙ place_is a p.0 w.0 w.1
+  place_or a None h e number = e ∙ sym (index_none s n x (place_nothing s n x (sym h)))
 
 pub sewn_place : (ss : List ℕ) (k l r : ℕ) → is_sewn_word k ≡ true → r ≡ index_of l ss → r ≡ place_link ss k l
 sewn_place ss k l r e h = rw e h

@@ -21,37 +21,35 @@ const SECOND: u64 = 2246822519;
 
 // Where a serial would stand if serials rose by one from place p on, whose serial is given. Nothing rests on it.
 fn guess(p: Place, own: u64, serial: u64) -> u64 {
-    let i = p.0;
-    std::num::wrapping_sub_u64(std::num::wrapping_add_u64(serial, i as u64), own)
+    serial.wrapping_add(p.0 as u64).wrapping_sub(own)
 }
 
-// The entry of a serial in a table of so many: the high bits of 32. Nothing rests on it, nor on what a table has.
-fn entry(mixed: u64, len: usize) -> usize {
+// The entry of a serial in a table of so many: the high bits of 32, multiplied. Nothing rests on it, nor on what a table has.
+fn entry(serial: u64, multiplier: u64, len: usize) -> usize
+    requires { multiplier < 4294967296 }
+{
+    let mixed = serial % 4294967296 * multiplier % 4294967296;
     if MANY <= len {
-        return (mixed % 4294967296 / 1048576) as usize;
+        return (mixed / 1048576) as usize;
     }
-    (mixed % 4294967296 / 16777216) as usize
+    (mixed / 16777216) as usize
 }
 
-fn first_entry(serial: u64, len: usize) -> usize {
-    entry(serial % 4294967296 * FIRST, len)
-}
-
-fn second_entry(serial: u64, len: usize) -> usize {
-    entry(serial % 4294967296 * SECOND, len)
-}
-
-fn put_hint(table: &mut [u64], at: usize, p: usize) {
-    if at < table.len() {
-        table[at] = p as u64;
+// A hint of a serial put into a table, and read: 0 where the table has no such entry.
+fn put_hint(table: &mut [u64], multiplier: u64, serial: u64, p: usize)
+    requires { multiplier < 4294967296 }
+{
+    let at = entry(serial, multiplier, table.len());
+    if let Some(word) = table.get_mut(at) {
+        *word = p as u64;
     }
 }
 
-fn hint(table: &[u64], at: usize) -> u64 {
-    if at < table.len() {
-        return table[at];
-    }
-    0
+fn hint(table: &[u64], multiplier: u64, serial: u64) -> u64
+    requires { multiplier < 4294967296 }
+{
+    let at = entry(serial, multiplier, table.len());
+    table.get(at).copied().unwrap_or(0)
 }
 
 // Whether the serials of n darts rise by one, so that every guess is right.
@@ -63,7 +61,7 @@ fn rise_by_one(block: &[u64], n: usize) -> bool
     }
     let least = memory::record::field(block, Place(0), Record::SERIAL);
     let greatest = memory::record::field(block, Place(n - 1), Record::SERIAL);
-    std::num::wrapping_sub_u64(greatest, least) == (n - 1) as u64
+    greatest.wrapping_sub(least) == (n - 1) as u64
 }
 
 // Hints for n darts, in both tables; none where every guess is right.
@@ -76,8 +74,8 @@ fn put_hints(block: &[u64], n: usize, first: &mut [u64], second: &mut [u64])
     // Those below i have hints.
     for i in 0..n {
         let serial = memory::record::field(block, Place(i), Record::SERIAL);
-        put_hint(first, first_entry(serial, first.len()), i);
-        put_hint(second, second_entry(serial, second.len()), i);
+        put_hint(first, FIRST, serial, i);
+        put_hint(second, SECOND, serial, i);
     }
 }
 
@@ -86,10 +84,7 @@ fn stands_at(block: &[u64], n: usize, g: u64, serial: u64) -> bool
     requires { words_for n ≤ length block.now }
     ensures { result ≡ true → (g < n) × (column block.now 0 g ≡ serial) }
 {
-    if g < n as u64 {
-        return memory::record::field(block, Place(g as usize), Record::SERIAL) == serial;
-    }
-    false
+    g < n as u64 && memory::record::field(block, Place(g as usize), Record::SERIAL) == serial
 }
 
 // The word of a link to a serial: its place among n darts, n where none has it. First where it stands if serials rise by one from place p
@@ -110,18 +105,15 @@ fn place_near(
     if stands_at(block, n, g, serial) {
         return g;
     }
-    let h = hint(first, first_entry(serial, first.len()));
+    let h = hint(first, FIRST, serial);
     if stands_at(block, n, h, serial) {
         return h;
     }
-    let k = hint(second, second_entry(serial, second.len()));
+    let k = hint(second, SECOND, serial);
     if stands_at(block, n, k, serial) {
         return k;
     }
-    match memory::lookup::place_of(block, n, serial) {
-        Some(q) => q.0 as u64,
-        None => n as u64,
-    }
+    memory::lookup::place_of(block, n, serial).map_or(n, |q| q.0) as u64
 }
 
 // The link word: the place of the dart that a sewn one is sewn to.
@@ -155,14 +147,10 @@ fn resolve_dart(block: &mut [u64], n: usize, p: Place, first: &[u64], second: &[
     let opposite = place_near(block, n, p, own, r.opposite, first, second);
     let link = link_place(block, n, p, own, r.kind, r.link, first, second);
     let placed = Record {
-        serial: own,
         next,
         opposite,
-        kind: r.kind,
         link,
-        x: r.x,
-        y: r.y,
-        z: r.z,
+        ..r
     };
     memory::record::put_record(block, p, placed);
 }

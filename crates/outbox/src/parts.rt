@@ -41,10 +41,9 @@ pub fn part2_count(block: &[u64], to: u64, order: &[usize], starts: &[usize], co
     for f in 0..count {
         let i = starts[f];
         let p = order[i];
-        if !critical_with(block, to, Place(p)) {
-            continue;
+        if critical_with(block, to, Place(p)) {
+            entries += 1;
         }
-        entries += 1;
     }
     entries
 }
@@ -166,10 +165,9 @@ pub fn part4_count(block: &[u64], to: u64, order: &[usize], starts: &[usize], co
     for f in 0..count {
         let i = starts[f];
         let p = order[i];
-        if !critical_beside(block, to, Place(p)) {
-            continue;
+        if critical_beside(block, to, Place(p)) {
+            entries += 1;
         }
-        entries += 1;
     }
     entries
 }

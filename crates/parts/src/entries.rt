@@ -46,6 +46,7 @@ pub struct Entry {
     pub next: usize,
 }
 
+// An entry of part 4: its index, the other block, where its labels begin, and the place past it; none where none stands there.
 fn read_entry(s: &[u8], at: usize, darts: usize, sizes: &[usize]) -> Option<Entry>
     requires { darts ≤ length sizes.now }
     ensures { (fs : List (List FaceDart)) → Sized fs darts sizes.now → EntryRead fs sizes.now s.now at result }

@@ -40,18 +40,23 @@ pub fn read_file_by(
     newblock::put_block(made, block, seen, keys, table, scratch)
 }
 
-// Reads a file into a block of the rack.
-pub fn read_file(file: &[u8], block: &mut [u64]) -> Answer
-    ensures { Gives (read_file rack file.now block.old) (answer_of result) block.new }
+// Reads a file by limits, with arrays of so many places and a block of so many words.
+pub fn read_file_in<const PLACES: usize, const WORDS: usize>(
+    file: &[u8],
+    limits: Limits,
+    block: &mut [u64],
+) -> Answer
+    requires { (limits.block ≤ PLACES) × (PLACES ≤ room) × (WORDS ≡ words_of (limits_of limits)) }
+    ensures { Gives (read_file (limits_of limits) file.now block.old) (answer_of result) block.new }
 {
-    let mut made = [0u64; Header::WORDS];
-    let mut seen = [0u8; Header::DARTS];
-    let mut keys = [0u64; Header::DARTS];
+    let mut made = [0u64; WORDS];
+    let mut seen = [0u8; PLACES];
+    let mut keys = [0u64; PLACES];
     let mut table = [0u16; keyset::SLOTS];
-    let mut scratch = [0u64; Header::DARTS];
+    let mut scratch = [0u64; PLACES];
     read_file_by(
         file,
-        Limits::rack(),
+        limits,
         &mut made,
         block,
         &mut seen,
@@ -59,4 +64,11 @@ pub fn read_file(file: &[u8], block: &mut [u64]) -> Answer
         &mut table,
         &mut scratch,
     )
+}
+
+// Reads a file into a block of the rack.
+pub fn read_file(file: &[u8], block: &mut [u64]) -> Answer
+    ensures { Gives (read_file rack file.now block.old) (answer_of result) block.new }
+{
+    read_file_in::<{ Header::DARTS }, { Header::WORDS }>(file, Limits::rack(), block)
 }

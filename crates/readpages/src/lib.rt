@@ -45,18 +45,23 @@ pub fn read_pages_by(
     newblock::put_links(made, block, seen, keys, table, scratch)
 }
 
-// Reads pages into a block of the rack.
-pub fn read_pages(pages: &[u8], block: &mut [u64]) -> Answer
-    ensures { Gives (read_pages rack pages.now block.old) (answer_of result) block.new }
+// Reads pages by limits, with arrays of so many places and a block of so many words.
+pub fn read_pages_in<const PLACES: usize, const WORDS: usize>(
+    pages: &[u8],
+    limits: Limits,
+    block: &mut [u64],
+) -> Answer
+    requires { (limits.block ≤ PLACES) × (PLACES ≤ room) × (WORDS ≡ words_of (limits_of limits)) }
+    ensures { Gives (read_pages (limits_of limits) pages.now block.old) (answer_of result) block.new }
 {
-    let mut made = [0u64; Header::WORDS];
-    let mut seen = [0u8; Header::DARTS];
-    let mut keys = [0u64; Header::DARTS];
+    let mut made = [0u64; WORDS];
+    let mut seen = [0u8; PLACES];
+    let mut keys = [0u64; PLACES];
     let mut table = [0u16; keyset::SLOTS];
-    let mut scratch = [0u64; Header::DARTS];
+    let mut scratch = [0u64; PLACES];
     read_pages_by(
         pages,
-        Limits::rack(),
+        limits,
         &mut made,
         block,
         &mut seen,
@@ -64,4 +69,11 @@ pub fn read_pages(pages: &[u8], block: &mut [u64]) -> Answer
         &mut table,
         &mut scratch,
     )
+}
+
+// Reads pages into a block of the rack.
+pub fn read_pages(pages: &[u8], block: &mut [u64]) -> Answer
+    ensures { Gives (read_pages rack pages.now block.old) (answer_of result) block.new }
+{
+    read_pages_in::<{ Header::DARTS }, { Header::WORDS }>(pages, Limits::rack(), block)
 }

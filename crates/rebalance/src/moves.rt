@@ -27,20 +27,14 @@ pub fn most_moves() -> usize
     65536
 }
 
-fn wide(x: u32) -> u64
-    ensures { result ≡ x }
-{
-    x as u64
-}
-
 // Move n, at its place: donor, recipient and serial, as a request is written.
 fn put_move(moves: &mut [u64], n: usize, donor: u32, recipient: u32, serial: u64)
     requires { n < length moves.old / 3 }
     ensures { moves.new ≡ with_move moves.old n (a_move donor recipient serial) }
 {
     let at = n * 3;
-    moves[at] = wide(donor);
-    moves[at + 1] = wide(recipient);
+    moves[at] = u64::from(donor);
+    moves[at + 1] = u64::from(recipient);
     moves[at + 2] = serial;
 }
 

@@ -9,16 +9,16 @@ use Rattle.model.specs.Image.{words_for}
 use Rattle.cells.proofs.Resets.{zeros_clear, zeros_long}
 use Rattle.receive.specs.Lent.{LentArrays}
 
--- with arrays of v darts and of n places
-pub zeros_lent : (v n : ℕ) {most all : ℕ} → most ≤ v → all ≤ n → v ≤ n → n ≤ words_for v
-    → LentArrays most all (replicate v 0) (replicate v 0) (replicate v 0) (replicate (words_for v) 0) (replicate v 0) (replicate v 0) (replicate n 0) (replicate v 0)
+-- with arrays of v darts, of n places and of w words
+pub zeros_lent : (v n w : ℕ) {most all : ℕ} → most ≤ v → all ≤ n → v ≤ n → n ≤ w → w ≡ words_for v
+    → LentArrays most all (replicate v 0) (replicate v 0) (replicate v 0) (replicate w 0) (replicate v 0) (replicate v 0) (replicate n 0) (replicate v 0)
     (replicate n 0) (replicate v 0) (replicate v 0) (replicate v 0) (replicate v room) (replicate v 0) (replicate n 0)
-zeros_lent v n h k l d = record {
+zeros_lent v n w h k l d e = record {
   keys_long = zeros_long _ v refl h;
   ranks_long = zeros_long _ v refl h;
   opposite_long = zeros_long _ v refl h;
-  draft_long = zeros_long _ (words_for v) refl (omega (arith, h));
-  draft_all = zeros_long _ (words_for v) refl (omega (arith, k, d));
+  draft_long = zeros_long _ w refl (omega (arith, h, e));
+  draft_all = zeros_long _ w refl (omega (arith, k, d));
   kinds_long = zeros_long _ v refl h;
   kinds_clear = zeros_clear v refl;
   links_long = zeros_long _ v refl h;
@@ -32,7 +32,7 @@ zeros_lent v n h k l d = record {
   numbers_long = zeros_long _ v refl h;
   third_long = zeros_long _ v refl h;
   places_long = omega (arith, h, length-replicate {A = ℕ} v room);
-  places_none = λ e i. get_or-replicate v e room 0 (omega (arith, h, i));
+  places_none = λ q i. get_or-replicate v q room 0 (omega (arith, h, i));
   marks_long = zeros_long _ v refl h;
   marks_clear = zeros_clear v refl;
   seen_all = zeros_long _ n refl k;

@@ -5,7 +5,7 @@ mod asks; // asks.rt: questions 17, 29 and 18 to 21
 
 ghost use Rattle.std.specs.Prelude.{◌≡◌, true, ◌≤◌, length, replicate};
 ghost use Rattle.model.specs.Values.{room, rack};
-ghost use Rattle.model.specs.Image.{words_of, holds_block};
+ghost use Rattle.model.specs.Image.{words_for, words_of, holds_block};
 ghost use Rattle.model.specs.Messages.{Transfer, a_transfer, message_in};
 ghost use Rattle.model.specs.Calls as calls;
 ghost use Rattle.answers.specs.Answers.{answer_of, Gives};
@@ -121,34 +121,39 @@ pub fn receive_by(
     }
 }
 
-// Takes the volume that a transfer brings into a block of the rack.
-pub fn receive(block: &mut [u64], message: &[u8]) -> Answer
-    ensures { Gives (calls.receive rack block.old message.now) (answer_of result) block.new }
+// Takes the volume that a transfer brings, by limits, with arrays of so many places, of a volume of so many darts and of its draft.
+pub fn receive_in<const PLACES: usize, const VOLUME: usize, const WORDS: usize>(
+    block: &mut [u64],
+    limits: Limits,
+    message: &[u8],
+) -> Answer
+    requires { (limits.block ≤ PLACES) × (PLACES ≤ room) × (limits.volume ≤ VOLUME) × (VOLUME ≤ PLACES) × (PLACES ≤ WORDS) × (WORDS ≡ words_for VOLUME) }
+    ensures { Gives (calls.receive (limits_of limits) block.old message.now) (answer_of result) block.new }
 {
     let mut vertex = [0u64; Header::MESSAGE];
     let mut serial = [0u64; Header::MESSAGE];
     let mut starts = [0usize; Header::MESSAGE];
     let mut sizes = [0usize; Header::MESSAGE];
-    let mut keys = [0u64; Header::VOLUME];
-    let mut ranks = [0usize; Header::VOLUME];
-    let mut opposite = [0usize; Header::VOLUME];
-    let mut draft = [0u64; DRAFT];
-    let mut kinds = [0u64; Header::VOLUME];
-    let mut links = [0u64; Header::VOLUME];
-    let mut old = [0usize; Header::DARTS];
-    let mut new = [0usize; Header::VOLUME];
-    let mut codes = [0u64; Header::DARTS];
-    let mut indices = [0u64; Header::VOLUME];
-    let mut numbers = [0u64; Header::VOLUME];
-    let mut third = [0u64; Header::VOLUME];
-    let mut places = [Header::DARTS; Header::VOLUME];
-    let mut marks = [0u8; Header::VOLUME];
-    let mut seen = [0u8; Header::DARTS];
-    let mut met = [0u8; Header::DARTS];
+    let mut keys = [0u64; VOLUME];
+    let mut ranks = [0usize; VOLUME];
+    let mut opposite = [0usize; VOLUME];
+    let mut draft = [0u64; WORDS];
+    let mut kinds = [0u64; VOLUME];
+    let mut links = [0u64; VOLUME];
+    let mut old = [0usize; PLACES];
+    let mut new = [0usize; VOLUME];
+    let mut codes = [0u64; PLACES];
+    let mut indices = [0u64; VOLUME];
+    let mut numbers = [0u64; VOLUME];
+    let mut third = [0u64; VOLUME];
+    let mut places = [Header::DARTS; VOLUME];
+    let mut marks = [0u8; VOLUME];
+    let mut seen = [0u8; PLACES];
+    let mut met = [0u8; PLACES];
     let mut slots = [0u16; keyset::SLOTS];
     receive_by(
         block,
-        Limits::rack(),
+        limits,
         message,
         &mut vertex,
         &mut serial,
@@ -172,4 +177,11 @@ pub fn receive(block: &mut [u64], message: &[u8]) -> Answer
         &mut met,
         &mut slots,
     )
+}
+
+// Takes the volume that a transfer brings into a block of the rack.
+pub fn receive(block: &mut [u64], message: &[u8]) -> Answer
+    ensures { Gives (calls.receive rack block.old message.now) (answer_of result) block.new }
+{
+    receive_in::<{ Header::DARTS }, { Header::VOLUME }, DRAFT>(block, Limits::rack(), message)
 }

@@ -5,7 +5,7 @@ mod least; // least.rt: along a face
 mod codes; // codes.rt: the labels of an update, as codes in order
 mod named; // named.rt: the faces that they name
 
-ghost use Rattle.std.specs.Prelude.{◌≡◌, true, not, ◌&&◌, ◌≤◌, ◌<◌, eqb, length, get_or, replicate};
+ghost use Rattle.std.specs.Prelude.{◌≡◌, true, not, ◌&&◌, ◌+◌, ◌≤◌, ◌<◌, eqb, length, get_or, replicate};
 ghost use Rattle.model.specs.Values.{rack, room, message_darts, last_block};
 ghost use Rattle.model.specs.Image.{count_in, block_in, holds_block};
 ghost use Rattle.model.specs.Arrival.{addressed};
@@ -174,23 +174,28 @@ pub fn redirect_by(
     }
 }
 
-// Redirects the faces that an update names, in a block of the rack.
-pub fn redirect(block: &mut [u64], message: &[u8]) -> Answer
-    ensures { Gives (calls.redirect rack block.old message.now) (answer_of result) block.new }
+// Redirects by limits, with arrays of so many places and of so many faces named.
+pub fn redirect_in<const PLACES: usize, const HITS: usize>(
+    block: &mut [u64],
+    limits: Limits,
+    message: &[u8],
+) -> Answer
+    requires { (limits.block ≤ PLACES) × (PLACES ≤ room) × (limits.block < HITS) × (HITS ≤ room + 1) }
+    ensures { Gives (calls.redirect (limits_of limits) block.old message.now) (answer_of result) block.new }
 {
     let mut vertex = [0u64; Header::MESSAGE];
     let mut serial = [0u64; Header::MESSAGE];
     let mut starts = [0usize; Header::MESSAGE];
     let mut sizes = [0usize; Header::MESSAGE];
-    let mut table = [4097u16; Header::DARTS];
-    let mut codes = [0u64; Header::DARTS];
-    let mut scratch = [0u64; Header::DARTS];
-    let mut hits = [0u8; 4097];
-    let mut seen = [0u8; Header::DARTS];
+    let mut table = [4097u16; PLACES];
+    let mut codes = [0u64; PLACES];
+    let mut scratch = [0u64; PLACES];
+    let mut hits = [0u8; HITS];
+    let mut seen = [0u8; PLACES];
     let mut slots = [0u16; keyset::SLOTS];
     redirect_by(
         block,
-        Limits::rack(),
+        limits,
         message,
         &mut vertex,
         &mut serial,
@@ -203,4 +208,11 @@ pub fn redirect(block: &mut [u64], message: &[u8]) -> Answer
         &mut seen,
         &mut slots,
     )
+}
+
+// Redirects the faces that an update names, in a block of the rack.
+pub fn redirect(block: &mut [u64], message: &[u8]) -> Answer
+    ensures { Gives (calls.redirect rack block.old message.now) (answer_of result) block.new }
+{
+    redirect_in::<{ Header::DARTS }, 4097>(block, Limits::rack(), message)
 }

@@ -53,12 +53,6 @@ pub fn all_hit(hits: &[u8], c: usize) -> bool
     ok
 }
 
-fn wide(x: u16) -> usize
-    ensures { result ≡ x }
-{
-    x as usize
-}
-
 // Sets the kind word of the darts whose index is below c.
 pub fn rewrite(block: &mut [u64], n: usize, word: u64, table: &[u16], c: usize)
     requires { (n ≤ room) × (words_for n ≤ length block.old) × (n ≤ length table.now) }
@@ -66,7 +60,7 @@ pub fn rewrite(block: &mut [u64], n: usize, word: u64, table: &[u16], c: usize)
 {
     // The words at the places below p are set.
     for p in 0..n {
-        if c <= wide(table[p]) {
+        if c <= usize::from(table[p]) {
             continue;
         }
         record::put_field(block, Place(p), Record::KIND, word);

@@ -109,24 +109,30 @@ pub fn release_by(
     )
 }
 
-// Lets a volume of a block of the rack go.
-pub fn release(block: &mut [u64], to: u64, serial: u64) -> Answer
-    ensures { Gives (calls.release rack block.old to serial) (answer_of result) block.new }
+// Lets a volume go by limits, with arrays of so many places and of a volume of so many darts.
+pub fn release_in<const PLACES: usize, const VOLUME: usize>(
+    block: &mut [u64],
+    limits: Limits,
+    to: u64,
+    serial: u64,
+) -> Answer
+    requires { (limits.block ≤ PLACES) × (PLACES ≤ room) × (limits.volume ≤ VOLUME) × (VOLUME ≤ message_darts) }
+    ensures { Gives (calls.release (limits_of limits) block.old to serial) (answer_of result) block.new }
 {
-    let mut met = [0u8; Header::DARTS];
-    let mut keys = [0u64; Header::DARTS];
+    let mut met = [0u8; PLACES];
+    let mut keys = [0u64; PLACES];
     let mut slots = [0u16; keyset::SLOTS];
-    let mut scratch = [0u64; Header::DARTS];
-    let mut marks = [0u8; Header::DARTS];
-    let mut order = [0usize; Header::DARTS];
-    let mut starts = [0usize; Header::DARTS];
-    let mut seen = [0u8; Header::DARTS];
-    let mut numbers = [0usize; Header::DARTS];
-    let mut firsts = [0usize; Header::DARTS];
-    let mut colours = [0usize; Header::VOLUME];
+    let mut scratch = [0u64; PLACES];
+    let mut marks = [0u8; PLACES];
+    let mut order = [0usize; PLACES];
+    let mut starts = [0usize; PLACES];
+    let mut seen = [0u8; PLACES];
+    let mut numbers = [0usize; PLACES];
+    let mut firsts = [0usize; PLACES];
+    let mut colours = [0usize; VOLUME];
     release_by(
         block,
-        Limits::rack(),
+        limits,
         to,
         serial,
         &mut met,
@@ -141,4 +147,11 @@ pub fn release(block: &mut [u64], to: u64, serial: u64) -> Answer
         &mut firsts,
         &mut colours,
     )
+}
+
+// Lets a volume of a block of the rack go.
+pub fn release(block: &mut [u64], to: u64, serial: u64) -> Answer
+    ensures { Gives (calls.release rack block.old to serial) (answer_of result) block.new }
+{
+    release_in::<{ Header::DARTS }, { Header::VOLUME }>(block, Limits::rack(), to, serial)
 }

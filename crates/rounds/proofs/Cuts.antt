@@ -1,5 +1,5 @@
 -- Messages in a row, one after the other. Assumes nothing.
-use Rattle.std.specs.Prelude.{None, Option as Optional, Some}
+use Rattle.std.specs.Prelude.{None, Option as Optional, Some, MatchOption}
 use mathlib.Core.Path.{◌≡◌, refl, sym, ◌∙◌, ap}
 use mathlib.Core.List.{List, [], ◌∷◌}
 use mathlib.Core.Logic.{⊎_elim, ◌⊎◌, inl, inr}
@@ -122,9 +122,13 @@ to_told n none (some r) f = absurd (none-ne-some r (sym (f refl)))
 to_told n (some a) none f = refl
 to_told n (some a) (some r) f = refl
 
-pub goes_to : (s : List ℕ) {r : Optional Head} → r ≡ head_in s → to_of r ≡ addressee s
+goes_to : (s : List ℕ) {r : Optional Head} → r ≡ head_in s → to_of r ≡ addressee s
 unfolding head_in four addressee
 goes_to s e = ap to_of e ∙ to_told (length s) (group.get s) (four.get s) (λ n. both_none group (group ⊕ group ⊕ group) s n)
+
+pub goes_by : (s : List ℕ) (r : Optional Head) {n : ℕ} {Gives : Head → Type 0} → r ≡ head_in s → MatchOption r (n ≡ 0) Gives → ((h : Head) → Gives h → n ≡ h.to) → n ≡ addressee s
+goes_by s (Some h) e m f = f h m ∙ goes_to s e
+goes_by s None e m f = m ∙ goes_to s e
 
 -- THE FIRST AND THE OTHERS, by get_or and drop
 pub first_is : (bs : List ℕ) → get_or (messages_in bs) 0 [] ≡ first_in bs

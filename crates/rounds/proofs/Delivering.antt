@@ -25,41 +25,9 @@ use Rattle.rounds.specs.declared.Outcome.{Outcome}
 use Rattle.rounds.specs.declared.Outcome.TheVariants as outcome
 use Rattle.rounds.specs.Post.{first_in}
 use Rattle.rounds.specs.Played.{own_memory, own_memories, at_block, asks_for, outcome_of, delivered, Stepped, Ran, Delivered, round_in_order, Played}
+use Rattle.rounds.proofs.Running.{some_number}
 use Rattle.rounds.proofs.Cuts.{first_is, others_are, first_front}
 use Rattle.rounds.proofs.Placed.{memory_is, no_memory, nothing_changed, then_elsewhere}
-
--- every question has a number above 0
-some_number : (q : Refusal) → eqb (question q) 0 ≡ false
-some_number refusal.MemorySize = refl
-some_number refusal.NotAnImage = refl
-some_number refusal.FileLayout = refl
-some_number refusal.CoordinateNotFinite = refl
-some_number refusal.LinksWrong = refl
-some_number refusal.ThirdLinksWrong = refl
-some_number refusal.LabelsWrong = refl
-some_number refusal.PointsDisagree = refl
-some_number refusal.Destination = refl
-some_number refusal.SerialNotHeld = refl
-some_number refusal.VolumeTooLarge = refl
-some_number refusal.SewnWithin = refl
-some_number refusal.VertexPairs = refl
-some_number refusal.CounterFull = refl
-some_number refusal.OutputTooShort = refl
-some_number refusal.MessageLayout = refl
-some_number refusal.NotForHere = refl
-some_number refusal.SerialsNotNew = refl
-some_number refusal.VolumeWrong = refl
-some_number refusal.PartsWrong = refl
-some_number refusal.BlockFull = refl
-some_number refusal.UpdateWrong = refl
-some_number refusal.BlockNumbers = refl
-some_number refusal.SerialsRepeated = refl
-some_number refusal.LabelsUnpaired = refl
-some_number refusal.PointsAcross = refl
-some_number refusal.MakersWrong = refl
-some_number refusal.OracleWrong = refl
-some_number refusal.VolumeForViewer = refl
-some_number refusal.PagesTooLong = refl
 
 one : {b : Bool} → b ≡ true → (x y : Round) → cond b x y ≡ x
 one e x y = rw e refl

@@ -1,4 +1,5 @@
 -- Steps one after the other on the memory of a mesh. Assumes nothing.
+use Rattle.std.specs.Prelude.{is_ok, Err, Ok}
 use mathlib.Core.Path.{◌≡◌, refl, sym, ◌∙◌, ap, subst}
 use mathlib.Core.Bool.{Bool, true, false, ◌&&◌}
 use mathlib.Core.List.{List, [], ◌∷◌, ◌++◌, map, append_assoc, append-nil}
@@ -9,6 +10,10 @@ use lib.ListN.{length, drop, length-drop}
 use lib.Seq.{drop-length}
 use Rattle.model.specs.Values.{limits_in}
 use Rattle.model.specs.DividedRun.{Step, done, stored, run_steps, messages_in, addressee, redirecting, redirect_step}
+use Rattle.model.specs.Calls.{number_of}
+use Rattle.answers.specs.Answers.{OrRefused, question, answer_of}
+use Rattle.answers.specs.declared.Refusal.{Refusal}
+use Rattle.answers.specs.declared.Refusal.TheVariants as refusal
 use Rattle.laws.proofs.Tests.{and_yes, both_are}
 use Rattle.rounds.specs.Post.{first_in}
 use Rattle.rounds.specs.Played.{own_memories, at_block, Stepped, Ran}
@@ -84,13 +89,50 @@ module _ {viewers : ℕ} {m u m' : List ℕ} {at : ℕ} {ok : Bool} (w : Telling
       end : at ≡ length u
       end = let k = w.within in omega (arith, h, k)
 
--- a step by the number that it gives
-pub one_counted : {viewers : ℕ} {m : List ℕ} {s : Step} {n k : ℕ} {m' : List ℕ} → Stepped viewers m s n m' → k ≡ n → Ran viewers m (s ∷ []) (eqb k 0) m'
-one_counted w q = rw q (one_ran w)
+-- every question has a number above 0
+pub some_number : (q : Refusal) → eqb (question q) 0 ≡ false
+some_number refusal.MemorySize = refl
+some_number refusal.NotAnImage = refl
+some_number refusal.FileLayout = refl
+some_number refusal.CoordinateNotFinite = refl
+some_number refusal.LinksWrong = refl
+some_number refusal.ThirdLinksWrong = refl
+some_number refusal.LabelsWrong = refl
+some_number refusal.PointsDisagree = refl
+some_number refusal.Destination = refl
+some_number refusal.SerialNotHeld = refl
+some_number refusal.VolumeTooLarge = refl
+some_number refusal.SewnWithin = refl
+some_number refusal.VertexPairs = refl
+some_number refusal.CounterFull = refl
+some_number refusal.OutputTooShort = refl
+some_number refusal.MessageLayout = refl
+some_number refusal.NotForHere = refl
+some_number refusal.SerialsNotNew = refl
+some_number refusal.VolumeWrong = refl
+some_number refusal.PartsWrong = refl
+some_number refusal.BlockFull = refl
+some_number refusal.UpdateWrong = refl
+some_number refusal.BlockNumbers = refl
+some_number refusal.SerialsRepeated = refl
+some_number refusal.LabelsUnpaired = refl
+some_number refusal.PointsAcross = refl
+some_number refusal.MakersWrong = refl
+some_number refusal.OracleWrong = refl
+some_number refusal.VolumeForViewer = refl
+some_number refusal.PagesTooLong = refl
 
--- a redirect whose message says to whom it goes
-pub one_served : {viewers : ℕ} {m : List ℕ} {b n k : ℕ} {message m' : List ℕ} → b ≡ addressee message → Stepped viewers m (at_block b (redirecting message)) n m' → k ≡ n → Ran viewers m (redirect_step message ∷ []) (eqb k 0) m'
-one_served {viewers} {m} {b} {n} {k} {message} {m'} e w q = one_counted (subst (λ (a : ℕ). Stepped viewers m (at_block a (redirecting message)) n m') e w) q
+served_ok : (r : OrRefused (Unit {0})) → is_ok r ≡ eqb (number_of (answer_of r)) 0
+served_ok (Ok v) = refl
+served_ok (Err q) = sym (some_number q)
+
+-- a step, and whether it is served
+pub one_served : {viewers : ℕ} {m : List ℕ} {s : Step} (r : OrRefused (Unit {0})) {m' : List ℕ} {ok : Bool} → Stepped viewers m s (number_of (answer_of r)) m' → ok ≡ is_ok r → Ran viewers m (s ∷ []) ok m'
+one_served r w e = rw (e, served_ok r) (one_ran w)
+
+-- a redirect at the block that its message says
+pub redirected : {viewers : ℕ} {m : List ℕ} {b n : ℕ} {message m' : List ℕ} → b ≡ addressee message → Stepped viewers m (at_block b (redirecting message)) n m' → Stepped viewers m (redirect_step message) n m'
+redirected {viewers} {m} {b} {n} {message} {m'} e w = subst (λ (a : ℕ). Stepped viewers m (at_block a (redirecting message)) n m') e w
 
 pub same_message : {viewers : ℕ} {m : List ℕ} {s s' : List ℕ} {b : Bool} {m' : List ℕ} → s ≡ s' → Ran viewers m (redirect_step s ∷ []) b m' → Ran viewers m (redirect_step s' ∷ []) b m'
 same_message {viewers} {m} {s} {s'} {b} {m'} e w = subst (λ (q : List ℕ). Ran viewers m (redirect_step q ∷ []) b m') e w

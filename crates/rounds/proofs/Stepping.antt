@@ -11,10 +11,10 @@ use Rattle.model.specs.Image.{words_of}
 use Rattle.model.specs.Calls.{Result, Answer, refused, number_of, send, release, redirect, receive}
 use Rattle.model.specs.DividedRun.{Call, Done, done, called, releasing, redirecting, receiving}
 use Rattle.laws.proofs.Tests.{by_cases}
-use Rattle.answers.specs.Answers.{Gives}
+use Rattle.answers.specs.Answers.{Gives, OrRefused, answer_of}
 use Rattle.answers.proofs.Questions.{by_limits}
 use Rattle.rounds.specs.Either.{limits_by}
-use Rattle.rounds.specs.Played.{own_memory, own_memories, at_block, Stepped}
+use Rattle.rounds.specs.Played.{own_memory, own_memories, at_block, Stepped, DoesCall}
 use Rattle.rounds.proofs.Placed as placed
 use Rattle.rounds.proofs.Placed.{own_fits, own_is, own_size, put_back, memories_are, elsewhere_as_was, memory_is, no_memory, nothing_changed}
 
@@ -34,22 +34,21 @@ module _ (viewers : ℕ) where
   done_is m b c x e = ap (λ (y : List ℕ). called (limits_in viewers b) y c) e
 
   -- at a block that the mesh has, of which n words were lent
-  pub stepped : (m p : List ℕ) (b a n : ℕ) (c : Call) (call : Limits → List ℕ → Result (Unit {0})) (given : Answer (Unit {0})) → a ≡ b * 32776 → n ≡ words_of (limits_in viewers b)
+  pub stepped : (m p : List ℕ) (b a n : ℕ) (c : Call) {number : ℕ} → a ≡ b * 32776 → n ≡ words_of (limits_in viewers b)
       → b < length m / 32776 → length p ≡ length (take (a + n - a) (drop a m))
-      → ((l : Limits) (x : List ℕ) → called l x c ≡ does (call l x))
-      → Gives (call (limits_by (length (take (a + n - a) (drop a m)))) (take (a + n - a) (drop a m))) given p
-      → Stepped viewers m (at_block b c) (number_of given) (put_mid a (a + n - a) m p)
-  stepped m p b a n c call given ea en h l e g =
+      → number ≡ (called (limits_by (length (take (a + n - a) (drop a m)))) (take (a + n - a) (drop a m)) c).number
+      → p ≡ (called (limits_by (length (take (a + n - a) (drop a m)))) (take (a + n - a) (drop a m)) c).memory
+      → Stepped viewers m (at_block b c) number (put_mid a (a + n - a) m p)
+  stepped m p b a n c ea en h l told left =
       let here = own_is viewers m b a n ea en in
       let long : length (take (a + n - a) (drop a m)) ≡ words_of (limits_in viewers b) = ap length here ∙ own_size viewers m b h in
       let w = put_back m p b a n ea h (rw en (own_fits viewers b)) (l ∙ long ∙ sym en) in
       let v = own_replaced en w in
       let limits : limits_by (length (take (a + n - a) (drop a m))) ≡ limits_in viewers b = ap limits_by long ∙ sized viewers b in
-      let said = by_limits (λ (k : Limits). call k (take (a + n - a) (drop a m))) limits g in
-      let d = done_is m b c (take (a + n - a) (drop a m)) (memory_is viewers m b h ∙ sym here) ∙ e (limits_in viewers b) (take (a + n - a) (drop a m)) in
+      let d = done_is m b c (take (a + n - a) (drop a m)) (memory_is viewers m b h ∙ sym here) ∙ ap (λ (k : Limits). called k (take (a + n - a) (drop a m)) c) (sym limits) in
       record {
-        number_is = ap number_of said.answer ∙ sym (ap (λ (q : Done). q.number) d);
-        stored_are = memories_are viewers v h ∙ ap (set (own_memories viewers m) b) said.left ∙ sym (ap (λ (q : Done). set (own_memories viewers m) b q.memory) d);
+        number_is = told ∙ sym (ap (λ (q : Done). q.number) d);
+        stored_are = memories_are viewers v h ∙ ap (set (own_memories viewers m) b) left ∙ sym (ap (λ (q : Done). set (own_memories viewers m) b q.memory) d);
         elsewhere = elsewhere_as_was viewers v h;
       }
     where
@@ -57,16 +56,24 @@ module _ (viewers : ℕ) where
       own_replaced {q = q} {q' = q'} r w = subst (λ (y : ℕ). placed.Replaced m b y q q') r w
 
   -- at one that it has not
-  pub nowhere : (m : List ℕ) (b : ℕ) (c : Call) (call : Limits → List ℕ → Result (Unit {0})) → length m / 32776 ≤ b
-      → ((l : Limits) (x : List ℕ) → called l x c ≡ does (call l x)) → Gives (call (limits_in viewers b) []) (refused 1) [] → Stepped viewers m (at_block b c) 1 m
-  nowhere m b c call h e g =
+  pub nowhere : (m : List ℕ) (b : ℕ) (c : Call) → length m / 32776 ≤ b → 1 ≡ (called (limits_in viewers b) [] c).number → Stepped viewers m (at_block b c) 1 m
+  nowhere m b c h one =
       let o = no_memory viewers m b h in
-      let d = done_is m b c [] o.0 ∙ e (limits_in viewers b) [] in
       record {
-        number_is = sym (ap (λ (q : Done). q.number) d ∙ ap number_of (sym g.answer));
+        number_is = one ∙ sym (ap (λ (q : Done). q.number) (done_is m b c [] o.0));
         stored_are = sym (o.1 _);
         elsewhere = nothing_changed viewers m;
       }
+
+-- a function that gives what a call gives
+pub does_call : {Gave : List ℕ → OrRefused (Unit {0}) → List ℕ → Type 0} (c : Call) (call : Limits → List ℕ → Result (Unit {0})) → ((l : Limits) (x : List ℕ) → called l x c ≡ does (call l x))
+    → ((l : Limits) → Gives (call l []) (refused 1) [])
+    → ((m m' : List ℕ) (r : OrRefused (Unit {0})) → Gave m r m' → Gives (call (limits_by (length m)) m) (answer_of r) m') → DoesCall Gave c
+does_call c call e none gives = record {
+  number_is = λ g. ap number_of (gives _ _ _ g).answer ∙ sym (ap (λ (q : Done). q.number) (e _ _));
+  memory_is = λ g. (gives _ _ _ g).left ∙ sym (ap (λ (q : Done). q.memory) (e _ _));
+  nowhere = λ l. ap number_of (none l).answer ∙ sym (ap (λ (q : Done). q.number) (e l []));
+}
 
 pub release_does : (to serial : ℕ) (l : Limits) (x : List ℕ) → called l x (releasing to serial) ≡ does (release l x to serial)
 unfolding called

@@ -1,13 +1,14 @@
 -- Rounds on the memory of a whole mesh. Assumes nothing.
-use Rattle.std.specs.Prelude.{◌≡◌, Bool, false, cond, ◌&&◌, List, ℕ, ◌*◌, ◌/◌, ◌%◌, ltb, eqb, length, get_or, take, drop}
+use Rattle.std.specs.Prelude.{◌≡◌, Bool, false, cond, ◌&&◌, List, [], ℕ, ◌*◌, ◌/◌, ◌%◌, ltb, eqb, length, get_or, take, drop}
 use Rattle.model.specs.Lists.{tab}
-use Rattle.model.specs.Values.{limits_in}
+use Rattle.model.specs.Values.{Limits, limits_in}
 use Rattle.model.specs.Image.{words, words_of}
-use Rattle.model.specs.Calls.{send}
+use Rattle.model.specs.Calls.{number_of, send}
 use Rattle.model.specs.Runs as runs
 use Rattle.model.specs.Runs.{Request}
-use Rattle.model.specs.DividedRun.{Call, Step, Round, done, stored, run_steps, messages_in, receive_step, last_steps, sent_messages, round, memory_at}
-use Rattle.answers.specs.Answers.{question}
+use Rattle.model.specs.DividedRun.{Call, called, Step, Round, done, stored, run_steps, messages_in, receive_step, last_steps, sent_messages, round, memory_at}
+use Rattle.answers.specs.Answers.{question, OrRefused, answer_of}
+use Rattle.rounds.specs.Either.{limits_by}
 use Rattle.rounds.specs.declared.Outcome.{Outcome}
 use Rattle.rounds.specs.declared.Outcome.TheVariants as outcome
 
@@ -36,6 +37,12 @@ pub record Stepped (viewers : ℕ) (m : List ℕ) (s : Step) (number : ℕ) (m' 
   pub number_is : number ≡ (done (limits_in viewers) (own_memories viewers m) s).number
   pub stored_are : own_memories viewers m' ≡ stored (own_memories viewers m) s (done (limits_in viewers) (own_memories viewers m) s)
   pub elsewhere : Elsewhere viewers m m'
+
+-- a function on a block's memory does what a call does, by the limits of the memory's size; a call on no memory is refused by 1
+pub record DoesCall (Gave : List ℕ → OrRefused (Unit {0}) → List ℕ → Type 0) (c : Call) : Type 0 where
+  pub number_is : {m m' : List ℕ} {r : OrRefused (Unit {0})} → Gave m r m' → number_of (answer_of r) ≡ (called (limits_by (length m)) m c).number
+  pub memory_is : {m m' : List ℕ} {r : OrRefused (Unit {0})} → Gave m r m' → m' ≡ (called (limits_by (length m)) m c).memory
+  pub nowhere : (lim : Limits) → 1 ≡ (called lim [] c).number
 
 -- steps one after the other: whether all gave 0, and the memories afterwards
 pub record Ran (viewers : ℕ) (m : List ℕ) (ss : List Step) (ok : Bool) (m' : List ℕ) : Type 0 where

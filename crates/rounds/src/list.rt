@@ -8,12 +8,6 @@ use crate::Outcome;
 // The number of a round that was taken and not finished: no question has it.
 pub const UNFINISHED: u64 = 255;
 
-fn wide(x: u32) -> u64
-    ensures { result ≡ x }
-{
-    x as u64
-}
-
 // The number of an outcome: 0 finished, the number of a refusal's question, or UNFINISHED.
 pub fn outcome_number(o: Outcome) -> u64
     ensures { result ≡ outcome_number (outcome_of o) }
@@ -21,7 +15,7 @@ pub fn outcome_number(o: Outcome) -> u64
     match o {
         Outcome::Finished => 0,
         Outcome::Unfinished => UNFINISHED,
-        Outcome::Refused(q) => wide(answers::refusal_number(q)),
+        Outcome::Refused(q) => u64::from(answers::refusal_number(q)),
     }
 }
 

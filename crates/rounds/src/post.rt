@@ -22,8 +22,5 @@ pub fn first_message(bytes: &[u8]) -> usize
 pub fn addressee(message: &[u8]) -> u64
     ensures { result ≡ to_block message.now }
 {
-    let Some(head) = reader::read_head(message) else {
-        return 0;
-    };
-    head.to
+    reader::read_head(message).map_or(0, |head| head.to)
 }

@@ -3,10 +3,10 @@ ghost use Rattle.std.specs.Prelude.{◌≡◌, [], ◌∷◌, map, ◌<◌};
 ghost use Rattle.model.specs.Values.{limits_in};
 ghost use Rattle.model.specs.Image.{words_of};
 ghost use Rattle.model.specs.Calls.{number_of};
-ghost use Rattle.model.specs.DividedRun.{receiving, releasing, redirecting, redirect_step, messages_in};
+ghost use Rattle.model.specs.DividedRun.{Call, receiving, releasing, redirecting, redirect_step, messages_in};
 ghost use Rattle.answers.specs.Answers.{answer_of};
-ghost use Rattle.mesh.specs.Parts.{block_count};
-ghost use Rattle.rounds.specs.Played.{Stepped, Ran, at_block};
+ghost use Rattle.rounds.specs.Played.{Stepped, DoesCall, Ran, at_block};
+ghost use Rattle.std.specs.Fn.{FnOnceReturnsAtMut};
 
 use crate::{either, post};
 use answers::{Answer, Refusal};
@@ -19,64 +19,43 @@ pub fn own_words(viewers: u32, b: usize) -> usize
     Limits::among(viewers, b as u64).words()
 }
 
-// Receive at block b, which the mesh has.
-fn receive_part(mesh: &mut [u64], viewers: u32, b: usize, message: &[u8]) -> Answer
-    requires { b < block_count mesh.old }
-    ensures { Stepped viewers mesh.old (at_block b (receiving message.now)) (number_of (answer_of result)) mesh.new }
+// A call on the memory of block b.
+fn call_at<F: FnOnce(&mut [u64]) -> Answer>(
+    mesh: &mut [u64],
+    viewers: u32,
+    b: u64,
+    call: F,
+) -> Answer
+    requires { F.IsAlwaysCallable call }
+    ensures { (c : Call) → DoesCall (λ m r m'. FnOnceReturnsAtMut F.FnOnce call m r m') c → Stepped viewers mesh.old (at_block b c) (number_of (answer_of result)) mesh.new }
 {
-    let from = b * Header::WORDS;
-    let end = from + own_words(viewers, b);
-    either::receive(&mut mesh[from..end], message)
-}
-
-// Release at block b, which the mesh has.
-fn release_part(mesh: &mut [u64], viewers: u32, b: usize, to: u64, serial: u64) -> Answer
-    requires { b < block_count mesh.old }
-    ensures { Stepped viewers mesh.old (at_block b (releasing to serial)) (number_of (answer_of result)) mesh.new }
-{
-    let from = b * Header::WORDS;
-    let end = from + own_words(viewers, b);
-    either::release(&mut mesh[from..end], to, serial)
-}
-
-// Redirect at block b, which the mesh has.
-fn redirect_part(mesh: &mut [u64], viewers: u32, b: usize, message: &[u8]) -> Answer
-    requires { b < block_count mesh.old }
-    ensures { Stepped viewers mesh.old (at_block b (redirecting message.now)) (number_of (answer_of result)) mesh.new }
-{
-    let from = b * Header::WORDS;
-    let end = from + own_words(viewers, b);
-    either::redirect(&mut mesh[from..end], message)
+    if (mesh.len() / Header::WORDS) as u64 <= b {
+        return Err(Refusal::MemorySize);
+    }
+    let from = b as usize * Header::WORDS;
+    let end = from + own_words(viewers, b as usize);
+    call(&mut mesh[from..end])
 }
 
 // Receive at any block.
 pub fn receive_at(mesh: &mut [u64], viewers: u32, b: u64, message: &[u8]) -> Answer
     ensures { Stepped viewers mesh.old (at_block b (receiving message.now)) (number_of (answer_of result)) mesh.new }
 {
-    if (mesh.len() / Header::WORDS) as u64 <= b {
-        return Err(Refusal::MemorySize);
-    }
-    receive_part(mesh, viewers, b as usize, message)
+    call_at(mesh, viewers, b, |block| either::receive(block, message))
 }
 
 // Release at any block.
 pub fn release_at(mesh: &mut [u64], viewers: u32, b: u64, to: u64, serial: u64) -> Answer
     ensures { Stepped viewers mesh.old (at_block b (releasing to serial)) (number_of (answer_of result)) mesh.new }
 {
-    if (mesh.len() / Header::WORDS) as u64 <= b {
-        return Err(Refusal::MemorySize);
-    }
-    release_part(mesh, viewers, b as usize, to, serial)
+    call_at(mesh, viewers, b, |block| either::release(block, to, serial))
 }
 
 // Redirect at any block.
 pub fn redirect_at(mesh: &mut [u64], viewers: u32, b: u64, message: &[u8]) -> Answer
     ensures { Stepped viewers mesh.old (at_block b (redirecting message.now)) (number_of (answer_of result)) mesh.new }
 {
-    if (mesh.len() / Header::WORDS) as u64 <= b {
-        return Err(Refusal::MemorySize);
-    }
-    redirect_part(mesh, viewers, b as usize, message)
+    call_at(mesh, viewers, b, |block| either::redirect(block, message))
 }
 
 // One update, at the block that it is addressed to; whether it is served.
@@ -84,7 +63,7 @@ fn redirect_message(mesh: &mut [u64], viewers: u32, message: &[u8]) -> bool
     ensures { Ran viewers mesh.old (redirect_step message.now ∷ []) result mesh.new }
 {
     let b = post::addressee(message);
-    answers::answer_number(redirect_at(mesh, viewers, b, message)) == 0
+    redirect_at(mesh, viewers, b, message).is_ok()
 }
 
 // Updates that stand one after the other, each at its block; whether all are served.
@@ -114,7 +93,7 @@ pub fn finish(
 ) -> bool
     ensures { Ran viewers mesh.old (at_block from (releasing to serial) ∷ map redirect_step (messages_in updates.now)) result mesh.new }
 {
-    let released = answers::answer_number(release_at(mesh, viewers, from, to, serial)) == 0;
+    let released = release_at(mesh, viewers, from, to, serial).is_ok();
     let told = redirect_all(mesh, viewers, updates);
     released & told
 }

@@ -63,21 +63,29 @@ pub fn save_file_by(
     Ok(n)
 }
 
-// Saves a block of the rack.
-pub fn save_file(block: &[u64], out: &mut [u8]) -> Written
-    ensures { Gives (save_file rack block.now out.old) (written_of result) out.new }
+// Saves a block by limits, with arrays of so many places.
+pub fn save_file_in<const PLACES: usize>(block: &[u64], limits: Limits, out: &mut [u8]) -> Written
+    requires { (limits.block ≤ PLACES) × (PLACES ≤ room) }
+    ensures { Gives (save_file (limits_of limits) block.now out.old) (written_of result) out.new }
 {
-    let mut seen = [0u8; Header::DARTS];
-    let mut keys = [0u64; Header::DARTS];
+    let mut seen = [0u8; PLACES];
+    let mut keys = [0u64; PLACES];
     let mut table = [0u16; keyset::SLOTS];
-    let mut scratch = [0u64; Header::DARTS];
+    let mut scratch = [0u64; PLACES];
     save_file_by(
         block,
-        Limits::rack(),
+        limits,
         out,
         &mut seen,
         &mut keys,
         &mut table,
         &mut scratch,
     )
+}
+
+// Saves a block of the rack.
+pub fn save_file(block: &[u64], out: &mut [u8]) -> Written
+    ensures { Gives (save_file rack block.now out.old) (written_of result) out.new }
+{
+    save_file_in::<{ Header::DARTS }>(block, Limits::rack(), out)
 }

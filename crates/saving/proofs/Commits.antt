@@ -1,5 +1,5 @@
 -- The commit, word by word: how it is put and read. Assumes nothing.
-use Rattle.std.specs.Prelude.{None}
+use Rattle.std.specs.Prelude.{None, Some, MatchOption}
 use Rattle.groups.specs.Slices.{MaybeRead}
 use mathlib.Core.Path.{◌≡◌, refl, sym, ap, ◌∙◌}
 use mathlib.Core.Bool.{true, ◌&&◌}
@@ -53,9 +53,13 @@ unfolding entry_bytes
 entry_put e s t = stored_then s t
 
 -- READ
-pub word_read : (s : List ℕ) (i : ℕ) (r : MaybeRead) → r ≡ read_at coordinate s (8 * i) → value_in r ≡ commit_word s i
+word_read : (s : List ℕ) (i : ℕ) (r : MaybeRead) → r ≡ read_at coordinate s (8 * i) → value_in r ≡ commit_word s i
 unfolding commit_word
 word_read s i r e = ap value_in e
+
+pub word_by : (s : List ℕ) (i : ℕ) (r : MaybeRead) {n : ℕ} {Gives : ℕ × ℕ → Type 0} → r ≡ read_at coordinate s (8 * i) → MatchOption r (n ≡ 0) Gives → ((x : ℕ × ℕ) → Gives x → n ≡ x.0) → n ≡ commit_word s i
+word_by s i (Some x) e m f = f x m ∙ word_read s i (Some x) e
+word_by s i None e m f = m ∙ word_read s i None e
 
 pub word_short : (s : List ℕ) (i : ℕ) → length s < 8 * i + 8 → 0 ≡ commit_word s i
 word_short s i h = word_read s i None (coordinate_short (8 * i) s h)

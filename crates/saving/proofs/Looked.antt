@@ -1,6 +1,6 @@
 -- What a recovery looks at: the files that a save cut anywhere leaves look right, and so do those that recoveries cut anywhere leave; where
 -- they look right, what is seen has the committed length and digest. Assumes nothing.
-use Rattle.std.specs.Prelude.{None, Option as Optional, Some}
+use Rattle.std.specs.Prelude.{None, Option as Optional, Some, is_some}
 use mathlib.Core.Path.{◌≡◌, refl, sym, ap, subst, ◌∙◌}
 use mathlib.Core.Bool.{Bool, true, false, cond}
 use mathlib.Core.List.{List}
@@ -14,7 +14,7 @@ use Rattle.commands.specs.declared.names.File.TheVariants as file
 use Rattle.saving.specs.declared.commit.Entry.{Entry}
 use Rattle.saving.specs.declared.look.Look.TheVariants as look
 use Rattle.saving.specs.Commit.{entry_of, entry_in}
-use Rattle.saving.specs.Looks.{same_entry, look_of, file_found, look_found}
+use Rattle.saving.specs.Looks.{same_entry, look_of, look_found}
 use Rattle.saving.specs.Folder.{Folder, blocks_of, first_of, seen, found_in, bytes_of, LooksRight, AsCommitted}
 use Rattle.saving.proofs.Commits.{committed_few}
 use Rattle.saving.proofs.Seen.{Held}
@@ -51,16 +51,16 @@ right_look e none (some bytes) n = by_cases (same_entry (entry_of bytes) e) (λ 
 right_look e (some bytes) own n = by_cases (same_entry (entry_of bytes) e) (λ t. record { bytes = bytes; is_seen = refl; same = t }) (λ t. absurd (n (rw t)))
 
 -- by two tests
-look_by : (e : Entry) (new own : Optional Entry) → cond (file_found new) (cond (look_found new e) look.Place look.Wrong) (cond (look_found own e) look.Placed look.Wrong) ≡ look_of e new own
+look_by : (e : Entry) (new own : Optional Entry) → cond (is_some new) (cond (look_found new e) look.Place look.Wrong) (cond (look_found own e) look.Placed look.Wrong) ≡ look_of e new own
 unfolding look_of
 look_by e (Some f) own = refl
 look_by e None (Some f) = refl
 look_by e None None = refl
 
-pub look_new : (e : Entry) (new own : Optional Entry) (t : Bool) → file_found new ≡ true → look_found new e ≡ t → cond t look.Place look.Wrong ≡ look_of e new own
+pub look_new : (e : Entry) (new own : Optional Entry) (t : Bool) → is_some new ≡ true → look_found new e ≡ t → cond t look.Place look.Wrong ≡ look_of e new own
 look_new e new own t f g = rw (f, g) at (look_by e new own)
 
-pub look_own : (e : Entry) (new own : Optional Entry) (t : Bool) → file_found new ≡ false → look_found own e ≡ t → cond t look.Placed look.Wrong ≡ look_of e new own
+pub look_own : (e : Entry) (new own : Optional Entry) (t : Bool) → is_some new ≡ false → look_found own e ≡ t → cond t look.Placed look.Wrong ≡ look_of e new own
 look_own e new own t f g = rw (f, g) at (look_by e new own)
 
 -- A FOLDER whose blocks are seen as t, with the commit x

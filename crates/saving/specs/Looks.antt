@@ -1,5 +1,5 @@
 -- Whether the files of a block are those that were committed. Assumes nothing.
-use Rattle.std.specs.Prelude.{Bool, true, false, cond, ◌&&◌, eqb, None, Option, Some}
+use Rattle.std.specs.Prelude.{Bool, false, cond, ◌&&◌, eqb, None, Option, Some}
 use Rattle.saving.specs.declared.commit.Entry.{Entry}
 use Rattle.saving.specs.declared.look.Look.{Look}
 use Rattle.saving.specs.declared.look.Look.TheVariants as look
@@ -14,10 +14,6 @@ look_of e None (Some o) = cond (same_entry o e) look.Placed look.Wrong
 look_of e None None = look.Wrong
 
 -- IN CODE
-abbrev pub file_found : Option Entry → Bool
-file_found (Some f) = true
-file_found None = false
-
 abbrev pub look_found : Option Entry → Entry → Bool
 look_found (Some f) e = same_entry f e
 look_found None e = false

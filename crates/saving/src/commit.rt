@@ -1,5 +1,5 @@
 // The commit of a save: how many blocks, then the length and the digest of each one's file, in words of 8 bytes.
-ghost use Rattle.std.specs.Prelude.{◌≡◌, ◌+◌, ◌≤◌, ◌<◌, length};
+ghost use Rattle.std.specs.Prelude.{◌≡◌, ◌+◌, ◌≤◌, length};
 ghost use Rattle.groups.specs.Slices.{Stored};
 ghost use Rattle.saving.specs.Commit.{digest as digest-in, entry_of as entry-for, entry_bytes};
 ghost use Rattle.saving.specs.Commit.{commit_word as word_of, committed as committed-in, entry_in as entry_at};
@@ -8,27 +8,20 @@ use groups::Read;
 use memory::header::Header;
 
 // What a commit says of a file: its length and its digest.
-#[derive(Clone, Copy)]
+#[derive(Clone, Copy, PartialEq, Eq)]
 pub struct Entry {
     pub size: u64,
     pub digest: u64,
-}
-
-// A byte by a function of its own, whose bound its callers know.
-fn wide(x: u8) -> u64
-    ensures { (result ≡ x) × (result < 256) }
-{
-    x as u64
 }
 
 // The digest of bytes.
 fn digest(bytes: &[u8]) -> u64
     ensures { result ≡ digest-in bytes.now }
 {
-    // The digest of the bytes before i is h.
+    // The digest of the bytes before b is h.
     let mut h: u64 = 0;
-    for i in 0..bytes.len() {
-        h = (h * 257 + wide(bytes[i]) + 1) % 36028797018963913;
+    for b in bytes {
+        h = (h * 257 + u64::from(*b) + 1) % 36028797018963913;
     }
     h
 }
@@ -59,10 +52,7 @@ fn word_in(commit: &[u8], i: usize) -> u64
     if commit.len() / 8 <= i {
         return 0;
     }
-    match groups::read_coordinate(commit, 8 * i) {
-        Some((v, _)) => v,
-        None => 0,
-    }
+    groups::read_coordinate(commit, 8 * i).map_or(0, |(v, _)| v)
 }
 
 // How many blocks a commit has, 1 to 16; 0 where the bytes are no commit.

@@ -1,6 +1,6 @@
 // Whether the files of a block are those that were committed.
 ghost use Rattle.std.specs.Prelude.{◌≡◌};
-ghost use Rattle.saving.specs.Looks.{same_entry, file_found, look_found, look_of};
+ghost use Rattle.saving.specs.Looks.{same_entry, look_found, look_of};
 
 use crate::commit::Entry;
 
@@ -16,34 +16,21 @@ pub enum Look {
 pub fn same(one: Entry, other: Entry) -> bool
     ensures { result ≡ same_entry one other }
 {
-    (one.size == other.size) & (one.digest == other.digest)
-}
-
-// Whether a file was found.
-fn is_file(found: Option<Entry>) -> bool
-    ensures { result ≡ file_found found }
-{
-    match found {
-        Some(_) => true,
-        None => false,
-    }
+    one == other
 }
 
 // Whether a file was found, and is the one of an entry.
 fn is_of(found: Option<Entry>, entry: Entry) -> bool
     ensures { result ≡ look_found found entry }
 {
-    match found {
-        Some(f) => same(f, entry),
-        None => false,
-    }
+    found.is_some_and(|f| same(f, entry))
 }
 
-// Of a block whose commit is an entry: by what stands under its new name and under its name.
+// Of a block whose commit is an entry: by what stands under its new name and under its name, none where no file does.
 pub fn look_at(entry: Entry, new: Option<Entry>, named: Option<Entry>) -> Look
     ensures { result ≡ look_of entry new named }
 {
-    if is_file(new) {
+    if new.is_some() {
         if is_of(new, entry) {
             return Look::Place;
         }

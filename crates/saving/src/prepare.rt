@@ -38,7 +38,7 @@ fn put_file(mesh: &[u64], b: usize, out: &mut [u8]) -> Option<usize>
     savefile::save_file(mesh::part_of(mesh, b), out).ok()
 }
 
-// The entry of the file of block b, for which there is room.
+// The entry of the file of block b, where it has one; there is room for the file.
 fn entry_in_room(mesh: &[u64], b: usize, room: &mut [u8]) -> Option<Entry>
     requires { 245775 ≤ length room.old }
     ensures { result ≡ known mesh.now b }
@@ -47,6 +47,7 @@ fn entry_in_room(mesh: &[u64], b: usize, room: &mut [u8]) -> Option<Entry>
     Some(commit::entry_of(&room[0..n]))
 }
 
+// The same with room of its own.
 fn entry_of_block(mesh: &[u64], b: usize) -> Option<Entry>
     ensures { result ≡ known mesh.now b }
 {
@@ -78,7 +79,7 @@ fn put_bytes(commit: &[u8], n: usize, room: &mut [u8])
     room[0..n].copy_from_slice(&commit[0..n]);
 }
 
-// The commit of all blocks of a mesh.
+// The commit of all blocks of a mesh: how many bytes were put, where each block has a file.
 fn put_commit(mesh: &[u64], room: &mut [u8]) -> Option<usize>
     ensures { StepPut (contents mesh.now File.NewCommit) room.old room.new result }
 {
@@ -101,7 +102,7 @@ fn put_commit(mesh: &[u64], room: &mut [u8]) -> Option<usize>
     Some(n)
 }
 
-// What is written under a name: a new file or a new commit, and nothing else.
+// What is written under a name, a new file or a new commit and nothing else: how many bytes were put, where they can be.
 fn put_contents(file: File, mesh: &[u64], room: &mut [u8]) -> Option<usize>
     ensures { StepPut (contents mesh.now file) room.old room.new result }
 {

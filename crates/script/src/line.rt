@@ -15,7 +15,7 @@ pub fn from(line: &[u8], k: usize) -> &[u8] {
 
 // A number with one digit more; it has at most nineteen.
 fn with_digit(n: u64, b: u8) -> u64 {
-    n % 1000000000000000000 * 10 + (b % 16) as u64
+    n % 1000000000000000000 * 10 + u64::from(b % 16)
 }
 
 // The number with which a text begins.

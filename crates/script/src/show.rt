@@ -12,7 +12,7 @@ pub fn number(n: u64) {
 }
 
 pub fn small(n: u32) {
-    number(n as u64);
+    number(u64::from(n));
 }
 
 pub fn size(n: usize) {

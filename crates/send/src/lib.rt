@@ -69,24 +69,31 @@ pub fn send_by(
     )
 }
 
-// Sends from a block of the rack.
-pub fn send(block: &[u64], to: u64, serial: u64, outbox: &mut [u8]) -> Written
-    ensures { Gives (calls.send rack block.now to serial outbox.old) (written_of result) outbox.new }
+// Sends by limits, with arrays of so many places and of a volume of so many darts.
+pub fn send_in<const PLACES: usize, const VOLUME: usize>(
+    block: &[u64],
+    limits: Limits,
+    to: u64,
+    serial: u64,
+    outbox: &mut [u8],
+) -> Written
+    requires { (limits.block ≤ PLACES) × (PLACES ≤ room) × (limits.volume ≤ VOLUME) × (VOLUME ≤ message_darts) }
+    ensures { Gives (calls.send (limits_of limits) block.now to serial outbox.old) (written_of result) outbox.new }
 {
-    let mut met = [0u8; Header::DARTS];
-    let mut keys = [0u64; Header::DARTS];
+    let mut met = [0u8; PLACES];
+    let mut keys = [0u64; PLACES];
     let mut slots = [0u16; keyset::SLOTS];
-    let mut scratch = [0u64; Header::DARTS];
-    let mut marks = [0u8; Header::DARTS];
-    let mut order = [0usize; Header::DARTS];
-    let mut starts = [0usize; Header::DARTS];
-    let mut seen = [0u8; Header::DARTS];
-    let mut numbers = [0usize; Header::DARTS];
-    let mut firsts = [0usize; Header::DARTS];
-    let mut colours = [0usize; Header::VOLUME];
+    let mut scratch = [0u64; PLACES];
+    let mut marks = [0u8; PLACES];
+    let mut order = [0usize; PLACES];
+    let mut starts = [0usize; PLACES];
+    let mut seen = [0u8; PLACES];
+    let mut numbers = [0usize; PLACES];
+    let mut firsts = [0usize; PLACES];
+    let mut colours = [0usize; VOLUME];
     send_by(
         block,
-        Limits::rack(),
+        limits,
         to,
         serial,
         outbox,
@@ -102,4 +109,11 @@ pub fn send(block: &[u64], to: u64, serial: u64, outbox: &mut [u8]) -> Written
         &mut firsts,
         &mut colours,
     )
+}
+
+// Sends from a block of the rack.
+pub fn send(block: &[u64], to: u64, serial: u64, outbox: &mut [u8]) -> Written
+    ensures { Gives (calls.send rack block.now to serial outbox.old) (written_of result) outbox.new }
+{
+    send_in::<{ Header::DARTS }, { Header::VOLUME }>(block, Limits::rack(), to, serial, outbox)
 }

@@ -72,7 +72,7 @@ fn darts_right(block: &[u64], n: usize, seen: &mut [u8]) -> bool
     true
 }
 
-// Looks at each dart and at those that it links to, and keeps the labels of the critical ones in order; how many these are.
+// Looks at each dart and at those that it links to, and keeps the labels of the critical ones in order; how many these are, none where a dart is not right.
 fn far_right(block: &[u64], n: usize, keys: &mut [u64]) -> Option<usize>
     requires { (n ≤ room) × (words_for n ≤ length block.now) × Darts block.now n × (n ≤ length keys.old) }
     ensures { FarSaid block.now n keys.new result }
@@ -88,7 +88,7 @@ fn far_right(block: &[u64], n: usize, keys: &mut [u64]) -> Option<usize>
     Some(c)
 }
 
-// Asks 2 of all but whether labels differ: those of the critical darts are then the first keys.
+// Asks 2 of all but whether labels differ: those of the critical darts are then the first keys, and how many is told; none after a no.
 fn but_labels(block: &[u64], limits: Limits, seen: &mut [u8], keys: &mut [u64]) -> Option<usize>
     requires { (limits.block ≤ room) × (limits.block ≤ length seen.old) × ((p : ℕ) → get_or seen.old p 0 ≡ 0) × (limits.block ≤ length keys.old) }
     ensures { ButLabels (limits_of limits) block.now keys.new result }

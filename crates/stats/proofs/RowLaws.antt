@@ -1,4 +1,5 @@
 -- What is counted into the rows of a block's cells are their figures. Assumes nothing.
+use Rattle.std.specs.Prelude.{Err, Ok}
 use mathlib.Core.Path.{◌≡◌, refl, sym, ap, ◌∙◌}
 use mathlib.Core.Bool.{Bool, true, false, cond, ◌&&◌}
 use mathlib.Core.List.{List, [], ◌∷◌, ◌++◌, map, append_assoc}
@@ -27,7 +28,7 @@ use Rattle.cells.proofs.Sited.{Sited, sited, darts_in}
 use Rattle.cells.proofs.Serials.{volume_serials, volume_size}
 use Rattle.cells.proofs.FaceSerials.{faces_carried}
 use Rattle.cells.proofs.StartLaws.{cycle_start}
-use Rattle.stats.specs.declared.rows.Told.TheVariants as answer
+use Rattle.stats.specs.declared.rows.Untold.TheVariants as untold
 use Rattle.stats.specs.BlockCounts.{critical_at}
 use Rattle.stats.specs.Groups.{is_first, firsts_below, Grouped}
 use Rattle.stats.specs.Rows.{border_with, figure, rows_of, row_words, told_rows, cells_told, rows_after}
@@ -395,16 +396,16 @@ starts_few m ok = omega (
 )
 
 -- THE ANSWER and the rows
-pub told_unsound : (m rows : List ℕ) → holds_block m ≡ false → (answer.Unsound ≡ cells_told m rows) × (rows ≡ rows_after m rows)
+pub told_unsound : (m rows : List ℕ) → holds_block m ≡ false → (Err untold.Unsound ≡ cells_told m rows) × (rows ≡ rows_after m rows)
 unfolding cells_told rows_after
 told_unsound m rows e = rw e (refl, refl)
 
 pub told_short : (m rows : List ℕ) → holds_block m ≡ true → {count : ℕ} → count ≡ length (volume_starts (darts_in m)) → length rows < 19 * count
-    → (answer.Short ≡ cells_told m rows) × (rows ≡ rows_after m rows)
+    → (Err untold.Short ≡ cells_told m rows) × (rows ≡ rows_after m rows)
 unfolding cells_told rows_after
 told_short m rows ok e h = rw (ok, lt-leb (row_words m) (length rows) (omega arith)) (refl, refl)
 
 pub told_cells : (m rows : List ℕ) → holds_block m ≡ true → {count : ℕ} → count ≡ length (volume_starts (darts_in m)) → 19 * count ≤ length rows → {T : List ℕ} → T ≡ told_rows m rows
-    → (answer.Cells count ≡ cells_told m rows) × (T ≡ rows_after m rows)
+    → (Ok count ≡ cells_told m rows) × (T ≡ rows_after m rows)
 unfolding cells_told rows_after
-told_cells m rows ok e h t = rw (ok, le-leb (row_words m) (length rows) (omega arith)) (ap answer.Cells e, t)
+told_cells m rows ok e h t = rw (ok, le-leb (row_words m) (length rows) (omega arith)) (ap Ok e, t)

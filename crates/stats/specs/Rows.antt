@@ -1,11 +1,11 @@
 -- The figures of each cell of a block, in order of least serial: a row of 19 words for each. Assumes nothing.
-use Rattle.std.specs.Prelude.{cond, ◌&&◌, List, ◌++◌, ℕ, zero, suc, ◌*◌, leb, length, drop}
+use Rattle.std.specs.Prelude.{Err, Ok, Result, cond, ◌&&◌, List, ◌++◌, ℕ, zero, suc, ◌*◌, leb, length, drop}
 use Rattle.model.specs.Lists.{keep, tab, concat_map}
 use Rattle.model.specs.Values.{Dart, is_critical_with}
 use Rattle.model.specs.Cells.{start_of, third_at, volume_in, faces_in, volume_starts}
 use Rattle.model.specs.Image.{block_in, holds_block}
-use Rattle.stats.specs.declared.rows.Told.{Told}
-use Rattle.stats.specs.declared.rows.Told.TheVariants as answer
+use Rattle.stats.specs.declared.rows.Untold.{Untold}
+use Rattle.stats.specs.declared.rows.Untold.TheVariants as untold
 
 -- the faces of a cell that are critical with block o; all darts of a face are, or none is
 abbrev pub border_with : List Dart → ℕ → ℕ → List (List ℕ)
@@ -30,11 +30,11 @@ unfoldable pub told_rows : List ℕ → List ℕ → List ℕ
 told_rows m rows = rows_of (block_in m).darts ++ drop (row_words m) rows
 
 -- THE ANSWER: how many cells, if the memory is a sound block's image and there is room for their rows
-unfoldable pub cells_told : List ℕ → List ℕ → Told
+unfoldable pub cells_told : List ℕ → List ℕ → Result ℕ Untold
 cells_told m rows =
     cond (holds_block m)
-    (cond (leb (row_words m) (length rows)) (answer.Cells (length (volume_starts (block_in m).darts))) answer.Short)
-    answer.Unsound
+    (cond (leb (row_words m) (length rows)) (Ok (length (volume_starts (block_in m).darts))) (Err untold.Short))
+    (Err untold.Unsound)
 
 -- and the rows, untouched where nothing is told
 unfoldable pub rows_after : List ℕ → List ℕ → List ℕ

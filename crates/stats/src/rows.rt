@@ -16,10 +16,9 @@ use memory::header::Header;
 use memory::record::{Place, Record};
 use memory::{kind, record};
 
-// How many cells were told; or that there is no room for their rows; or that the memory is no sound block's image.
+// Why no cells are told: there is no room for their rows; or the memory is no sound block's image.
 #[derive(Clone, Copy)]
-pub enum Told {
-    Cells(usize),
+pub enum Untold {
     Short,
     Unsound,
 }
@@ -180,21 +179,21 @@ fn tell(block: &[u64], numbers: &[usize], firsts: &[usize], count: usize, rows: 
 }
 
 // Tells the figures of each cell of a block, in order of least serial, one row after the other. Rows are written where the memory
-// is a sound block's image and there is room for all of them.
-pub fn cell_figures(block: &[u64], rows: &mut [u64]) -> Told
+// is a sound block's image and there is room for all of them. How many cells there are.
+pub fn cell_figures(block: &[u64], rows: &mut [u64]) -> Result<usize, Untold>
     ensures answer { result ≡ cells_told block.now rows.old }
     ensures rows { rows.new ≡ rows_after block.now rows.old }
 {
     if !sound::is_sound(block) {
-        return Told::Unsound;
+        return Err(Untold::Unsound);
     }
     let mut numbers = [0usize; Header::DARTS];
     let mut firsts = [0usize; Header::DARTS];
     let mut order = [0usize; Header::DARTS];
     let count = groups::number(block, false, &mut numbers, &mut firsts, &mut order);
     if rows.len() < 19 * count {
-        return Told::Short;
+        return Err(Untold::Short);
     }
     tell(block, &numbers, &firsts, count, rows);
-    Told::Cells(count)
+    Ok(count)
 }

@@ -73,10 +73,7 @@ fn take(b: usize, file: &[u8], mesh: &mut [u64]) -> Result<(), Fault> {
     if mesh.len() / Header::WORDS <= b {
         return Err(Fault::TooLarge);
     }
-    match readfile::read_file(file, mesh::part_mut(mesh, b)) {
-        Ok(()) => Ok(()),
-        Err(r) => Err(Fault::Refused(r)),
-    }
+    readfile::read_file(file, mesh::part_mut(mesh, b)).map_err(Fault::Refused)
 }
 
 // An open file, into block b of a mesh.

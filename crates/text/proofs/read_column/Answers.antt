@@ -4,10 +4,6 @@ use Rattle.text.proofs.Readings.{no_column, column_short, column_right}
 use native.Mathlib.Omega.{arith}
 use Rattle.text.proofs.read_column.Goals as goal
 
-pub number_at-requires : goal.number_at-requires
-number_at-requires c =
-    omega (arith, c.requires, c.blanks_from-k.ensures.within)
-
 pub returns-in_err-v : goal.returns-in_err-v
 returns-in_err-v c =
     rw c.from_residual.ensures (

@@ -5,10 +5,6 @@ use Rattle.listing.proofs.Digits.{spelling_start, some_left, spelling_step, spel
 use native.Mathlib.Omega.{arith}
 use Rattle.listing.proofs.text.put_decimal.Goals as goal
 
-pub overflow_add-next : goal.overflow_add-next
-overflow_add-next c =
-    omega arith
-
 pub loop-x-init : goal.loop-x-init
 loop-x-init c =
     spelling_start _ _ _ _ c.requires.0 (ap (λ (k : ℕ). c.args.at + k) c.digit_count.ensures) c.requires.1

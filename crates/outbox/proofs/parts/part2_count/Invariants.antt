@@ -1,5 +1,5 @@
 -- `outbox::parts::part2_count` meets its contract. The loop's invariant: the entries of the faces before f are counted.
--- The measure is what is left of the faces. Assumes nothing.
+-- Assumes nothing.
 use Rattle.outbox.specs.Bytes.{in_part2}
 use Rattle.outbox.proofs.Running.{Tallied}
 use Rattle.outbox.proofs.parts.part2_count.Given as goal

@@ -13,4 +13,4 @@ bounds-moves-at-3 c =
 
 pub returns : goal.returns
 returns c =
-    rw (c.wide.ensures, c.wide-2.ensures)
+    rw (c.from.ensures, c.from-2.ensures)

@@ -14,10 +14,10 @@ pub bounds-table-p : goal.bounds-table-p
 bounds-table-p c =
     omega arith
 
-pub loop-p-preserved-then-c-wide : goal.loop-p-preserved-then-c-wide
-loop-p-preserved-then-c-wide c = (
+pub loop-p-preserved-then-c-from : goal.loop-p-preserved-then-c-from
+loop-p-preserved-then-c-from c = (
   omega (arith, c.loop-p-test.true),
-  rewriting_skip c.args.table.now c.args.c c.loop-p.invariant.1 (omega (arith, c.if-c-wide.true, c.wide.ensures)),
+  rewriting_skip c.args.table.now c.args.c c.loop-p.invariant.1 (omega (arith, c.if-c-from.true, c.from.ensures)),
 )
 
 pub put_field-requires : goal.put_field-requires
@@ -29,7 +29,7 @@ loop-p-preserved c =
     let table = c.args.table.now in
     let c' = c.args.c in (
       omega (arith, c.loop-p-test.true),
-      rewriting_set table c' c.loop-p.invariant.1 (omega (arith, c.if-c-wide.false, c.wide.ensures))
+      rewriting_set table c' c.loop-p.invariant.1 (omega (arith, c.if-c-from.false, c.from.ensures))
           (omega (arith, c.loop-p-test.true, c.requires.0, c.requires.1)) c.put_field.ensures,
     )
 

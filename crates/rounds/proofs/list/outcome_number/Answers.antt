@@ -7,4 +7,4 @@ use Rattle.rounds.proofs.list.outcome_number.Goals as goal
 
 pub returns-in-Refused : goal.returns-in-Refused
 returns-in-Refused c =
-    c.wide.ensures ∙ c.refusal_number.ensures ∙ sym (ap (λ (o : Outcome). outcome_number (outcome_of o)) c.in-Refused.is)
+    c.from.ensures ∙ c.refusal_number.ensures ∙ sym (ap (λ (o : Outcome). outcome_number (outcome_of o)) c.in-Refused.is)

@@ -1,13 +1,9 @@
 -- `rounds::post::addressee` meets its contract: the fourth number of the head, 0 where there is no head.
 -- Assumes nothing.
-use mathlib.Core.Path.{sym, ◌∙◌}
-use Rattle.rounds.proofs.Cuts.{goes_to}
+use Rattle.std.proofs.Common.{rules}
+use Rattle.rounds.proofs.Cuts.{goes_by}
 use Rattle.rounds.proofs.post.addressee.Goals as goal
-
-pub returns-in_default : goal.returns-in_default
-returns-in_default c =
-    goes_to c.args.message.now (sym c.in_default.is ∙ c.read_head.ensures)
 
 pub returns : goal.returns
 returns c =
-    goes_to c.args.message.now (sym c.in-Some.is ∙ c.read_head.ensures)
+    goes_by c.args.message.now c.read_head.result c.read_head.ensures c.map_or.ensures (λ h e. search rules)

@@ -1,17 +1,14 @@
 -- `rounds::steps::redirect_at` meets its contract.
 -- Assumes nothing.
-use Rattle.model.specs.Values.{limits_in}
+use Rattle.std.proofs.Common.{rules}
 use Rattle.model.specs.Calls.{redirect}
 use Rattle.model.specs.DividedRun.{redirecting}
 use Rattle.redirect.proofs.Answered.{size_refused}
-use Rattle.rounds.proofs.Stepping.{nowhere, none_sized, redirect_does}
+use Rattle.rounds.proofs.Stepping.{does_call, none_sized, redirect_does}
 use Rattle.rounds.proofs.steps.redirect_at.Goals as goal
 
-pub returns-then-mesh-b : goal.returns-then-mesh-b
-returns-then-mesh-b c =
-    let mesh = c.args.mesh.now in
-    let b = c.args.b in
+pub returns : goal.returns
+returns c =
     let message = c.args.message.now in
-    let lim = limits_in c.args.viewers b in
-    nowhere c.args.viewers mesh b (redirecting message) (λ l x. redirect l x message) c.if-mesh-b.true (redirect_does message)
-    (size_refused lim _ _ (none_sized lim))
+    c.call_at.ensures (redirecting message)
+    (does_call _ (λ l x. redirect l x message) (redirect_does message) (λ l. size_refused l _ _ (none_sized l)) (λ m m' r k. rw (← k.shows, ← k.leaves) (search rules)))

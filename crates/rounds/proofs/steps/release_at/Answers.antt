@@ -1,18 +1,15 @@
 -- `rounds::steps::release_at` meets its contract.
 -- Assumes nothing.
-use Rattle.model.specs.Values.{limits_in}
+use Rattle.std.proofs.Common.{rules}
 use Rattle.model.specs.Calls.{release}
 use Rattle.model.specs.DividedRun.{releasing}
 use Rattle.release.proofs.LettingGo.{size_refused}
-use Rattle.rounds.proofs.Stepping.{nowhere, none_sized, release_does}
+use Rattle.rounds.proofs.Stepping.{does_call, none_sized, release_does}
 use Rattle.rounds.proofs.steps.release_at.Goals as goal
 
-pub returns-then-mesh-b : goal.returns-then-mesh-b
-returns-then-mesh-b c =
-    let mesh = c.args.mesh.now in
-    let b = c.args.b in
+pub returns : goal.returns
+returns c =
     let to = c.args.to in
     let serial = c.args.serial in
-    let lim = limits_in c.args.viewers b in
-    nowhere c.args.viewers mesh b (releasing to serial) (λ l x. release l x to serial) c.if-mesh-b.true (release_does to serial)
-    (size_refused _ _ _ lim (none_sized lim))
+    c.call_at.ensures (releasing to serial)
+    (does_call _ (λ l x. release l x to serial) (release_does to serial) (λ l. size_refused _ _ _ l (none_sized l)) (λ m m' r k. rw (← k.shows, ← k.leaves) (search rules)))

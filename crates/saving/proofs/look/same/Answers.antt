@@ -1,9 +1,8 @@
 -- `saving::look::same` meets its contract. Assumes nothing.
-use mathlib.Core.Path.{refl}
 use Rattle.saving.specs.Looks.{same_entry}
 use Rattle.saving.proofs.look.same.Goals as goal
 
 pub returns : goal.returns
 unfolding same_entry
 returns c =
-    refl
+    c.eq.ensures

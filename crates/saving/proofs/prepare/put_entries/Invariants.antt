@@ -1,6 +1,5 @@
 -- `saving::prepare::put_entries` meets its contract. The loop's invariant (`Entering`): the entries of the blocks below b are put, up to
--- past, and each of these blocks has a file. The measure is what is left of the blocks. Assumes nothing.
-use Prim.Native.Nat.{◌-◌}
+-- past, and each of these blocks has a file. Assumes nothing.
 use Rattle.saving.proofs.Entering.{Entering}
 use Rattle.saving.proofs.prepare.put_entries.Given as goal
 
