@@ -17,9 +17,13 @@ pub fn put_text(out: &mut [u8], at: usize, text: &[u8]) -> usize
     requires { at + length text.now ≤ length out.old }
     ensures { Stored out.old at text.now out.new result }
 {
-    let past = at + text.len();
-    out[at..past].copy_from_slice(text);
-    past
+    // The bytes of the text below i are stored.
+    let mut i = 0;
+    while i < text.len() {
+        out[at + i] = text[i];
+        i += 1;
+    }
+    at + i
 }
 
 // How many digits a number has.

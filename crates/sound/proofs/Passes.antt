@@ -1,16 +1,18 @@
 -- The loops of question 2: zeros, darts with their nexts marked, and the labels gathered. Assumes nothing.
 use mathlib.Core.Path.{◌≡◌, refl, sym, ap, ◌∙◌}
-use mathlib.Core.Bool.{Bool, true, false, false≢true, cond}
+use mathlib.Core.Bool.{Bool, true, false, false≢true, cond, ◌&&◌}
 use mathlib.Core.List.{List}
 use mathlib.Core.Logic.{◌⊎◌, inl, inr, ⊎_elim, ◌↔◌}
 use Prim.Native.Nat.{ℕ, ◌+◌, ◌≤◌, ◌<◌}
 use native.Mathlib.Omega.{arith}
 use native.Mathlib.Numerals.{add-one}
+use lib.Dec.{eqb}
 use lib.ListN.{length, get_or, set, take, length-set}
 use lib.Seq.{get_or-set_same, get_or-set_other, take-suc-set}
+use borrow.Author.Tests.{eqb-true, eqb-false}
 use Rattle.model.specs.Image.{column, is_critical_word}
 use Rattle.sound.specs.Kept.{Kept}
-use Rattle.laws.proofs.Tests.{by_cases, eq_or_ne, last_or_below}
+use Rattle.laws.proofs.Tests.{by_cases, eq_or_ne, last_or_below, and_left, and_right}
 use Rattle.columns.specs.Columns.{all_below, before, place_test, kind_test, dart_test, link_test, codes, OneToOne, Links, Darts}
 use Rattle.columns.proofs.Below.{below_at, below_none, below_more, below_false}
 use Rattle.columns.proofs.Links.{linked}
@@ -26,6 +28,27 @@ pub record Zeroing (m : List ℕ) (a : ℕ) (ok : Bool) (i : ℕ) : Type 0 where
   pub a_le : a ≤ i
   pub if_yes : ok ≡ true → (k : ℕ) → a ≤ k → k < i → get_or m k 0 ≡ 0
   pub if_no : ok ≡ false → (k : ℕ) × (a ≤ k) × (k < i) × (get_or m k 0 ≡ 0 → ⊥)
+
+pub zeroing_none : (m : List ℕ) (a : ℕ) → Zeroing m a true a
+zeroing_none m a = record { a_le = omega arith; if_yes = λ _ k l u. absurd (omega arith); if_no = λ e. absurd (false≢true (sym e)) }
+
+pub zeroing_more : (m : List ℕ) (a : ℕ) {ok : Bool} {i : ℕ} → Zeroing m a ok i → Zeroing m a (ok && eqb (get_or m i 0) 0) (i + 1)
+zeroing_more m a {ok} {i} w = record {
+  a_le = omega (arith, w.a_le);
+  if_yes = λ e k l u. ⊎_elim (λ q. rw q (eqb-true _ _ (and_right ok _ e))) (λ q. w.if_yes (and_left ok _ e) k l q) (last_or_below u);
+  if_no = λ e. go ok refl e;
+}
+  where
+    go : (t : Bool) → ok ≡ t → (ok && eqb (get_or m i 0) 0) ≡ false → (k : ℕ) × (a ≤ k) × (k < i + 1) × (get_or m k 0 ≡ 0 → ⊥)
+    go true q e = (i, w.a_le, omega arith, eqb-false _ _ (rw q at e))
+    go false q e = let r = w.if_no q in (r.0, r.1, omega (arith, r.2), r.3)
+
+pub zeroing_end : (m : List ℕ) (a : ℕ) {ok : Bool} {i : ℕ} → Zeroing m a ok i → length m ≤ i → i ≤ length m → (ok ≡ true) ↔ ((k : ℕ) → a ≤ k → k < length m → get_or m k 0 ≡ 0)
+zeroing_end m a {ok} {i} w h h' = (λ e k l u. w.if_yes e k l (omega arith), λ z. go ok refl z)
+  where
+    go : (t : Bool) → ok ≡ t → ((k : ℕ) → a ≤ k → k < length m → get_or m k 0 ≡ 0) → ok ≡ true
+    go true q z = q
+    go false q z = let r = w.if_no q in absurd (r.3 (z r.0 r.1 (omega (arith, r.2))))
 
 -- TESTS of the places below i, all passed
 pub record Going (t : ℕ → Bool) (n i : ℕ) : Type 0 where
@@ -84,6 +107,9 @@ module _ {f : ℕ → ℕ} {n : ℕ} {seen : List ℕ} {i : ℕ} (w : Marked f n
       go p q (inr a) (inl b) same = absurd (fresh p a (same ∙ ap f b))
       go p q (inr a) (inr b) same = w.apart p q a b same
 
+  pub met_again : i < n → (get_or seen (f i) 0 ≡ 0 → ⊥) → OneToOne f n → ⊥
+  met_again h e one = let r = w.only (f i) e in let same = one r.0 i (omega (arith, r.1)) h r.2 in omega (arith, r.1, same)
+
 -- A TEST AND A MARK for each place below i
 pub record Passing (t : ℕ → Bool) (f : ℕ → ℕ) (n : ℕ) (seen : List ℕ) (i : ℕ) : Type 0 where
   pub tests : Going t n i
@@ -98,6 +124,9 @@ Passed t f n = ((p : ℕ) → p < n → t p ≡ true) × OneToOne f n
 module _ {t : ℕ → Bool} {f : ℕ → ℕ} {n : ℕ} {seen : List ℕ} {i : ℕ} (w : Passing t f n seen i) where
   pub test_no : i < n → {r : Bool} → r ≡ t i → r ≡ false → (◌≡◌ {A = Bool} false true) ↔ Passed t f n
   test_no h er e = no_iff (λ d. false≢true (sym e ∙ er ∙ d.0 i h))
+
+  pub mark_no : i < n → {a x : ℕ} → a ≡ f i → x ≡ get_or seen a 0 → (x ≡ 0 → ⊥) → (◌≡◌ {A = Bool} false true) ↔ Passed t f n
+  mark_no h ea ex e = no_iff (λ d. met_again w.marks h (λ z. e (ex ∙ ap (λ (x : ℕ). get_or seen x 0) ea ∙ z)) d.1)
 
   pub passing_more : i < n → {r : Bool} → r ≡ t i → r ≡ true → f i < n → {a : ℕ} → a ≡ f i → get_or seen a 0 ≡ 0 → Passing t f n (set seen a 1) (i + 1)
   passing_more h er e lt ea et = rw ea (record {
@@ -171,3 +200,8 @@ pub gather_more : {m : List ℕ} {n : ℕ} {out : List ℕ} {c i : ℕ} → Gath
 gather_more {m} {n} {out} {c} {i} w h {out'} {c'} k = by_cases (is_critical_word (column m 3 i))
     (λ e. gather_take w h refl e refl (k.keys_are ∙ ap (λ (b : Bool). cond b (set out c (column m 4 i)) out) e) (k.count_is ∙ ap (λ (b : Bool). cond b (c + 1) c) e))
     (λ e. gather_skip w h refl e (k.keys_are ∙ ap (λ (b : Bool). cond b (set out c (column m 4 i)) out) e) (k.count_is ∙ ap (λ (b : Bool). cond b (c + 1) c) e))
+
+pub gather_end : {m : List ℕ} {n : ℕ} {out : List ℕ} {c i : ℕ} → Gathering m n out c i → n ≤ i → (c ≤ n) × (take c out ≡ codes m n)
+gather_end {m} {n} {out} {c} {i} w h =
+    let e : i ≡ n = omega (arith, w.i_le) in
+    (omega (arith, w.c_le), w.done ∙ ap (codes m) e)

@@ -1,5 +1,4 @@
 -- Question 2: what the header, the zeros, the darts and the labels say together. Assumes nothing.
-use Rattle.std.specs.Prelude.{None, Option, Some}
 use mathlib.Core.Path.{◌≡◌, refl, sym, ap, ◌∙◌}
 use mathlib.Core.Bool.{Bool, true, false, false≢true, ◌&&◌}
 use mathlib.Core.List.{List, [], ◌∷◌}
@@ -25,6 +24,8 @@ use Rattle.columns.proofs.Points.{finite_test, finite_is, points_are}
 use Rattle.columns.proofs.Question.{Passed, passed_image, image_passed}
 use Rattle.columns.proofs.OneDart.{DartRight, dart_says, dart_yes, FarRight, far_says, far_yes, link_here, third_here, points_here, far_from, dart_from}
 use Rattle.sound.specs.Kept.{FarSaid, ButLabels}
+use Rattle.sound.specs.declared.Far.{Far}
+use Rattle.sound.specs.declared.Far.TheVariants.{Right, Wrong}
 
 -- 3, of the header
 pub record Header (m : List ℕ) : Type 0 where
@@ -158,8 +159,8 @@ module _ (lim : Limits) (m : List ℕ) where
     -- THE LAST: darts with those that they link to, then the labels
     pub far_last : words_for (count m) ≤ length m → {h z d : Bool} → h ≡ (header_test m && leb (count m) lim.block_darts) → h ≡ true
         → (z ≡ true) ↔ ZerosFrom m (8 + count m * 8) → z ≡ true → (d ≡ true) ↔ Darts m (count m) → d ≡ true
-        → (keys : List ℕ) (r : Option ℕ) → FarSaid m (count m) keys r → ButLabels lim m keys r
-    far_last len eh yh ez yz ed yd keys (Some c) said = (
+        → (keys : List ℕ) (r : Far) → FarSaid m (count m) keys r → ButLabels lim m keys r
+    far_last len eh yh ez yz ed yd keys (Right c) said = (
       omega (arith, said.1, few),
       same_truth (is_image lim m) (distinct (codes m (count m)))
           (λ e. (passes e).differ)
@@ -172,7 +173,7 @@ module _ (lim : Limits) (m : List ℕ) where
 
         head : Header m
         head = header_says m (and_left (header_test m) _ (sym eh ∙ yh))
-    far_last len eh yh ez yz ed yd keys None said = no_far said
+    far_last len eh yh ez yz ed yd keys Wrong said = no_far said
 
 -- QUESTIONS 5 TO 8, where all before have been answered yes
 module _ (m : List ℕ) (w : Ranged m) where

@@ -38,8 +38,10 @@ fn zeros(block: &[u64], a: usize) -> bool
 {
     // The words from a on and below i are zero, if ok.
     let mut ok = true;
-    for i in a..block.len() {
+    let mut i = a;
+    while i < block.len() {
         ok = ok & (block[i] == 0);
+        i += 1;
     }
     ok
 }
@@ -53,7 +55,8 @@ fn darts_right(block: &[u64], n: usize, seen: &mut [u8]) -> bool
     let counter = block[Header::COUNTER];
     // The darts below i are right, and their nexts, marked in `seen`, differ.
     let mut last = 0;
-    for i in 0..n {
+    let mut i = 0;
+    while i < n {
         if !dart::place_at(block, n, Place(i), last) {
             return false;
         }
@@ -68,46 +71,56 @@ fn darts_right(block: &[u64], n: usize, seen: &mut [u8]) -> bool
         }
         seen[a] = 1;
         last = record::field(block, Place(i), Record::SERIAL);
+        i += 1;
     }
     true
 }
 
-// Looks at each dart and at those that it links to, and keeps the labels of the critical ones in order; how many these are, none where a dart is not right.
-fn far_right(block: &[u64], n: usize, keys: &mut [u64]) -> Option<usize>
+// Whether each dart is right with the darts that it links to; then how many of them are critical.
+#[derive(Clone, Copy)]
+enum Far {
+    Right(usize),
+    Wrong,
+}
+
+// Looks at each dart and at those that it links to, and keeps the labels of the critical ones in order.
+fn far_right(block: &[u64], n: usize, keys: &mut [u64]) -> Far
     requires { (n ≤ room) × (words_for n ≤ length block.now) × Darts block.now n × (n ≤ length keys.old) }
     ensures { FarSaid block.now n keys.new result }
 {
     // The darts below i are right, and the first c keys are their labels.
     let mut c = 0;
-    for i in 0..n {
+    let mut i = 0;
+    while i < n {
         if !dart::far_at(block, n, Place(i)) {
-            return None;
+            return Far::Wrong;
         }
         c = questions::put_label(block, Place(i), keys, c);
+        i += 1;
     }
-    Some(c)
+    Far::Right(c)
 }
 
-// Asks 2 of all but whether labels differ: those of the critical darts are then the first keys, and how many is told; none after a no.
-fn but_labels(block: &[u64], limits: Limits, seen: &mut [u8], keys: &mut [u64]) -> Option<usize>
+// Asks 2 of all but whether labels differ: those of the critical darts are then the first keys.
+fn but_labels(block: &[u64], limits: Limits, seen: &mut [u8], keys: &mut [u64]) -> Far
     requires { (limits.block ≤ room) × (limits.block ≤ length seen.old) × ((p : ℕ) → get_or seen.old p 0 ≡ 0) × (limits.block ≤ length keys.old) }
     ensures { ButLabels (limits_of limits) block.now keys.new result }
 {
     if block.len() < Header::SIZE {
-        return None;
+        return Far::Wrong;
     }
     if !header_right(block, limits) {
-        return None;
+        return Far::Wrong;
     }
     let n = block[Header::COUNT] as usize;
     if block.len() < 8 + n * 8 {
-        return None;
+        return Far::Wrong;
     }
     if !zeros(block, 8 + n * 8) {
-        return None;
+        return Far::Wrong;
     }
     if !darts_right(block, n, seen) {
-        return None;
+        return Far::Wrong;
     }
     far_right(block, n, keys)
 }
@@ -125,7 +138,7 @@ pub fn is_sound_by(
     requires by_index { ((p : ℕ) → get_or seen.old p 0 ≡ 0) × (table.old ≡ replicate slot_count 0) }
     ensures { result ≡ is_image (limits_of limits) block.now }
 {
-    let Some(critical) = but_labels(block, limits, seen, keys) else {
+    let Far::Right(critical) = but_labels(block, limits, seen, keys) else {
         return false;
     };
     questions::apart(keys, critical, table, scratch)
@@ -137,7 +150,7 @@ pub fn is_sound(block: &[u64]) -> bool
 {
     let mut seen = [0u8; Header::DARTS];
     let mut keys = [0u64; Header::DARTS];
-    let Some(critical) = but_labels(block, Limits::rack(), &mut seen, &mut keys) else {
+    let Far::Right(critical) = but_labels(block, Limits::rack(), &mut seen, &mut keys) else {
         return false;
     };
     questions::apart_at_rack(&mut keys, critical)

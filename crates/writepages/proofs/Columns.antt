@@ -4,9 +4,8 @@ use mathlib.Core.List.{List, [], ◌∷◌, ◌++◌, append_assoc}
 use Prim.Native.Nat.{ℕ, ◌+◌, ◌-◌, ◌/◌, ◌%◌, ◌^◌, ◌<◌, ◌≤◌}
 use native.Mathlib.Omega.{arith}
 use lib.Dec.{ltb}
-use lib.ListN.{length, take, drop, set, replicate, length-drop, length-append, length-set, length-replicate}
-use lib.Seq.{sets, length-take-le}
-use borrow.Rule.Slice.PartMut.{put_mid}
+use lib.ListN.{length, set, length-append, length-set, length-replicate, get_or-replicate}
+use lib.Seq.{sets}
 use borrow.Author.Tests.{ltb-true, ltb-false}
 use Rattle.laws.proofs.Tests.{by_cases}
 use Rattle.model.specs.Values.{Third}
@@ -16,18 +15,22 @@ use Rattle.model.specs.Pages.{blanks, number_column, third_column}
 use Rattle.theory.proofs.TextLaws.{last_digit, next_digit, last_length, next_length, decimal_ten}
 use Rattle.theory.proofs.PageLaws.{column_length}
 use Rattle.groups.specs.Slices.{Stored}
-use Rattle.groups.proofs.Writing.{stored_then, stored_part}
+use Rattle.groups.proofs.Writing.{stored_then}
 use Rattle.codec.specs.Thirds.{ThirdSmall}
+use Rattle.listing.proofs.Copies.{Copying, copy_fits, copy_more, copy_all}
 use Rattle.listing.proofs.Digits.{set_last}
 use Rattle.listing.proofs.LineTexts.{third_short}
 
--- BLANKS that fill a part
-pub blanks_stored : (l : List ℕ) (at n : ℕ) {ys : List ℕ} → at + n ≤ length l → ys ≡ replicate (length (take (at + n - at) (drop at l))) 32
-    → Stored l at (blanks n) (put_mid at (at + n - at) l ys) (at + n)
-blanks_stored l at n h e =
-    let size : at + n - at ≡ n = omega arith in
-    let k = length-take-le (at + n - at) (drop at l) (omega (arith, length-drop at l)) ∙ size in
-    stored_part l at (omega (arith, length-replicate {A = ℕ} n 32)) h (e ∙ ap (λ (m : ℕ). replicate m 32) k)
+-- BLANKS, copied one after the other
+module _ {l out : List ℕ} {at i : ℕ} (n : ℕ) (w : Copying l at (blanks n) out i) where
+  pub blank_fits : i < n → at + i < length out
+  blank_fits h = copy_fits w (omega (arith, length-replicate {A = ℕ} n 32))
+
+  pub blank_more : i < n → Copying l at (blanks n) (set out (at + i) 32) (i + 1)
+  blank_more h = rw (get_or-replicate {A = ℕ} n i 32 0 h) at (copy_more w (omega (arith, length-replicate {A = ℕ} n 32)))
+
+  pub blank_all : n ≤ i → Stored l at (blanks n) out (at + i)
+  blank_all h = copy_all w (omega (arith, length-replicate {A = ℕ} n 32))
 
 -- A NUMBER RIGHT-ALIGNED IN N COLUMNS
 abbrev pub aligned : ℕ → ℕ → List ℕ

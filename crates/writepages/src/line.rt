@@ -28,8 +28,13 @@ fn put_blanks(out: &mut [u8], at: usize, n: usize) -> usize
     requires { at + n ≤ length out.old }
     ensures { Stored out.old at (blanks n) out.new result }
 {
-    out[at..at + n].fill(b' ');
-    at + n
+    // The first i blanks are stored.
+    let mut i = 0;
+    while i < n {
+        out[at + i] = b' ';
+        i += 1;
+    }
+    at + i
 }
 
 // A number right-aligned in its columns, written from its last digit.

@@ -19,10 +19,10 @@ returns-in_default c =
 
 pub apart_at_rack-requires : goal.apart_at_rack-requires
 apart_at_rack-requires c =
-    let few = (rw c.in-Some.is at c.but_labels.ensures).0 in
+    let few = (rw c.in-Right.is at c.but_labels.ensures).0 in
     let fits = rack_fits _ c.rack.ensures in
     (omega (arith, few, fits), omega (arith, few, fits, c.but_labels.auto.keys))
 
 pub returns : goal.returns
 returns c =
-    c.apart_at_rack.ensures ∙ sym (rw c.in-Some.is at c.but_labels.ensures).1 ∙ ap (λ (l : Limits). is_image l c.args.block.now) c.rack.ensures
+    c.apart_at_rack.ensures ∙ sym (rw c.in-Right.is at c.but_labels.ensures).1 ∙ ap (λ (l : Limits). is_image l c.args.block.now) c.rack.ensures

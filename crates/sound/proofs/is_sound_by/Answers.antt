@@ -10,7 +10,7 @@ returns-in_default c =
 
 pub apart-requires : goal.apart-requires
 apart-requires c =
-    let few = (rw c.in-Some.is at c.but_labels.ensures).0 in (
+    let few = (rw c.in-Right.is at c.but_labels.ensures).0 in (
       omega (arith, few, c.requires.block_le_room.0),
       omega (arith, few, c.requires.block_le_room.2, c.but_labels.auto.keys),
       omega (arith, few, c.requires.block_le_room.3),
@@ -19,4 +19,4 @@ apart-requires c =
 
 pub returns : goal.returns
 returns c =
-    c.apart.ensures ∙ sym (rw c.in-Some.is at c.but_labels.ensures).1
+    c.apart.ensures ∙ sym (rw c.in-Right.is at c.but_labels.ensures).1
