@@ -182,11 +182,18 @@ module _ {t : ℕ → ℕ → Bool} {l : List ℕ} {k : ℕ} where
   pub pairs_no : PairsLeft t l k → 1 < length l - k → {r : Bool} → r ≡ two_test t (get_or l k 0) (get_or l (k + 1) 0) (drop (k + 2) l) → r ≡ false → false ≡ in_pairs t l
   pairs_no w h e f = sym (pairs_step t l k (two_there (length l) k h) ∙ first_no _ _ (sym e ∙ f)) ∙ w.rest
 
-  pub pairs_end : (h : ℕ) → k ≡ 2 * h → PairsLeft t l k → length l / 2 ≤ h → eqb (length l % 2) 0 ≡ in_pairs t l
-  pairs_end h s w d = ⊎_elim
-      (λ e. eq-eqb (length l % 2) 0 (even s e) ∙ (no_pairs t 0).0 ∙ ap (in_pairs t) (sym (end_none l k e)))
-      (λ n. ne_eqb (length l % 2) 0 (λ z. n (whole (length l) s d w.k_le z)) ∙ (no_pairs t (get_or l k 0)).1 ∙ ap (in_pairs t) (sym (end_one l k w.k_le (few (length l) s d) n)))
+  pub pairs_end : PairsLeft t l k → length l - k ≤ 1 → eqb k (length l) ≡ in_pairs t l
+  pairs_end w h = ⊎_elim
+      (λ e. eq-eqb k (length l) e ∙ (no_pairs t 0).0 ∙ ap (in_pairs t) (sym (end_none l k e)))
+      (λ n. ne_eqb k (length l) n ∙ (no_pairs t (get_or l k 0)).1 ∙ ap (in_pairs t) (sym (end_one l k w.k_le h n)))
       (eq_or_ne k (length l)) ∙ w.rest
+
+  -- where the pairs before k are h in number, as many as there are: none is left of an even number of keys, and one of an odd
+  pub halves_end : (h : ℕ) → k ≡ 2 * h → PairsLeft t l k → length l / 2 ≤ h → eqb (length l % 2) 0 ≡ in_pairs t l
+  halves_end h s w d = ⊎_elim
+      (λ e. eq-eqb (length l % 2) 0 (even s e) ∙ sym (eq-eqb k (length l) e))
+      (λ n. ne_eqb (length l % 2) 0 (λ z. n (whole (length l) s d w.k_le z)) ∙ sym (ne_eqb k (length l) n))
+      (eq_or_ne k (length l)) ∙ pairs_end w (few (length l) s d)
     where
       even : {c : ℕ} → k ≡ 2 * h → k ≡ c → c % 2 ≡ 0
       even a b = omega (arith, a, b)

@@ -1,6 +1,7 @@
 // Processes of this machine, and the stack of this one, as /proc tells of them. A number alone does not name a process, since it is given
 // again: the time at which the process started stands beside it.
 ghost use Rattle.std.specs.Prelude.{◌≤◌, length};
+ghost use Rattle.system.specs.Pieces.{Piece};
 
 use crate::files;
 use crate::text::{Text, line_with, word};
@@ -10,7 +11,8 @@ use std::time::Duration;
 
 // Word n behind the process's name, which ends with the last closing bracket: 0 is its state, 19 the time at which it started.
 fn fact(stat: &[u8], n: usize) -> &[u8]
-    ensures { length result.now ≤ length stat.now }
+    ensures piece { Piece stat.now result.now }
+    ensures within { length result.now ≤ length stat.now }
 {
     let behind = stat.rsplit(|b| *b == b')').next().unwrap_or(stat);
     word(behind, n)
@@ -18,7 +20,8 @@ fn fact(stat: &[u8], n: usize) -> &[u8]
 
 // When a process started, by what /proc says of it.
 pub fn started(stat: &[u8]) -> &[u8]
-    ensures { length result.now ≤ length stat.now }
+    ensures piece { Piece stat.now result.now }
+    ensures within { length result.now ≤ length stat.now }
 {
     fact(stat, 19)
 }

@@ -1,19 +1,15 @@
--- Reading blanks, texts, digits and numbers at a place: what is read, and that there is one number or none. Assumes nothing.
+-- Reading blanks, texts, digits and numbers at a place: what each loop has read, and that there is one number or none. Assumes nothing.
 use mathlib.Core.Path.{◌≡◌, refl, sym, ◌∙◌, ap}
-use mathlib.Core.Bool.{Bool, true, false, true≢false}
+use mathlib.Core.Bool.{Bool, true, false, true≢false, ◌&&◌}
 use mathlib.Core.List.{List, [], ◌∷◌, ◌++◌}
 use mathlib.Core.Logic.{◌≢◌, ⊎_elim, ◌↔◌}
 use Prim.Native.Nat.{ℕ, suc, ◌+◌, ◌*◌, ◌-◌, ◌^◌, ◌≤◌, ◌<◌}
 use native.Mathlib.Numerals.{add-one}
 use native.Mathlib.Omega.{arith}
 use lib.Dec.{leb, eqb}
-use lib.Pointwise.{pointwise, bytes_decides}
 use lib.ListN.{length, get_or, take, drop, length-replicate, length-drop}
 use lib.Seq.{get_or-take, get_or-drop, length-take-le, take-suc, take-add}
-use borrow.Author.Tests.{eqb-true, eqb-false, leb-true, ltb-true, lt-ltb}
-use Rattle.std.specs.Prelude.{None, Option, Some, MatchOption}
-use Rattle.std.specs.Option.{unwrap_or}
-use Rattle.std.specs.List.{AllWithin, HoldsAt}
+use borrow.Author.Tests.{eqb-true, eqb-false, eq-eqb, leb-true, ltb-true, lt-ltb}
 use Rattle.laws.specs.Standing.{Stands}
 use Rattle.laws.proofs.Tests.{by_cases, and_left, and_right, and_intro, all_at, lt_or_ge}
 use Rattle.laws.proofs.Standings.{stands_left, stands_right, stands_both, stands_at, stands_take, stands_one, stands_byte, byte_stands, stands_many, many_stand}
@@ -34,41 +30,60 @@ told_no w e p = true≢false (sym (w.1 p) ∙ e)
 pub told_yes : {P : Type 0} {r : Bool} → (r ≡ true) ↔ P → r ≡ true → P
 told_yes w e = w.0 e
 
--- A PART of the bytes, by its places
-part_length : (s : List ℕ) (from n : ℕ) → from + n ≤ length s → length (take n (drop from s)) ≡ n
-part_length s from n h = length-take-le n (drop from s) (omega (arith, length-drop from s))
+-- BLANKS
+pub record Blanking (s : List ℕ) (at : ℕ) (yes : Bool) (i : ℕ) : Type 0 where
+  pub so_far : (yes ≡ true) ↔ ((j : ℕ) → j < i → get_or s (at + j) 0 ≡ 32)
 
-part_byte : (s : List ℕ) (from n i : ℕ) → i < n → get_or (take n (drop from s)) i 0 ≡ get_or s (from + i) 0
-part_byte s from n i l = get_or-take n (drop from s) i 0 l ∙ get_or-drop from s i 0
+pub blank_none : (s : List ℕ) (at : ℕ) → Blanking s at true 0
+blank_none s at = record { so_far = (λ e j h. absurd (omega arith), λ p. refl) }
 
--- A TEXT is compared with a part as long
-pub text_stands : {s text : List ℕ} {at n : ℕ} {r : Bool} → at + length text ≤ length s → n ≡ length text → r ≡ pointwise eqb (take n (drop at s)) text → (r ≡ true) ↔ Stands s at text
-text_stands {s} {text} {at} {n} h e f = (
-  λ y. let same : take n (drop at s) ≡ text = (bytes_decides _ text).0 (sym f ∙ y) in
-      record { within = h; same = λ i l. sym (part_byte s at n i (omega arith)) ∙ ap (λ (t : List ℕ). get_or t i 0) same },
-  λ t. f ∙ (bytes_decides _ text).1 (ap (λ (k : ℕ). take k (drop at s)) e ∙ stands_take t),
+pub blank_more : (s : List ℕ) (at : ℕ) {yes : Bool} {i : ℕ} → Blanking s at yes i → Blanking s at (yes && eqb (get_or s (at + i) 0) 32) (i + 1)
+blank_more s at {yes} {i} w = record {
+  so_far = (
+    λ e j h. ⊎_elim
+        (λ l. w.so_far.0 (and_left yes _ e) j l)
+        (λ g. let same : j ≡ i = omega arith in rw same (eqb-true (get_or s (at + i) 0) 32 (and_right yes _ e)))
+        (lt_or_ge j i),
+    λ p. and_intro (w.so_far.1 (λ j h. p j (omega arith))) (eq-eqb (get_or s (at + i) 0) 32 (p i (omega arith))),
+  );
+}
+
+pub blank_all : (s : List ℕ) (at n : ℕ) {yes : Bool} {i : ℕ} → Blanking s at yes i → i ≡ n → at + n ≤ length s → (yes ≡ true) ↔ Stands s at (blanks n)
+blank_all s at n w e h = (
+  λ y. stands_many h (λ j l. w.so_far.0 y j (omega arith)),
+  λ t. w.so_far.1 (λ j l. many_stand n t j (omega arith)),
 )
 
--- BLANKS COUNTED: `position` finds the first byte of a part that is none
-pub past_blanks : {s : List ℕ} {from n m k : ℕ} (r : Option ℕ) → from + n ≤ length s → m ≡ n
-    → MatchOption r (AllWithin (λ b. b ≡ 32) (take m (drop from s)) 0 (length (take m (drop from s))))
-    (λ i. (i < length (take m (drop from s))) × HoldsAt (λ b. b ≢ 32) (take m (drop from s)) i × AllWithin (λ b. b ≡ 32) (take m (drop from s)) 0 i)
-    → k ≡ unwrap_or r n → PastBlanks s from n k
-past_blanks {s} {from} {n} {m} {k} (Some i) h e w f =
-    let long = part_length s from m (omega arith) in
-    let is : i ≡ k = sym f in
-    rw (← is) (record {
-      within = omega (arith, w.0, long);
-      before = λ j l. sym (part_byte s from m j (omega (arith, w.0, long))) ∙ w.2 j 0 (omega arith) l;
-      here = λ l q. w.1 0 (part_byte s from m i (omega arith) ∙ q);
-    })
-past_blanks {s} {from} {n} {m} {k} None h e w f =
-    let long = part_length s from m (omega arith) in
-    record {
-      within = omega arith;
-      before = λ j l. sym (part_byte s from m j (omega arith)) ∙ w j 0 (omega arith) (omega (arith, long));
-      here = λ l. absurd (omega (arith, l, f));
-    }
+-- A TEXT: its first i bytes stand there
+pub record Matching (s : List ℕ) (at : ℕ) (text : List ℕ) (i : ℕ) : Type 0 where
+  pub i_le : i ≤ length text
+  pub same : (j : ℕ) → j < i → get_or s (at + j) 0 ≡ get_or text j 0
+
+pub match_none : (s : List ℕ) (at : ℕ) (text : List ℕ) → Matching s at text 0
+match_none s at text = record { i_le = omega arith; same = λ j h. absurd (omega arith) }
+
+module _ {s text : List ℕ} {at i : ℕ} (w : Matching s at text i) where
+  pub match_more : i < length text → get_or s (at + i) 0 ≡ get_or text i 0 → Matching s at text (i + 1)
+  match_more h e = record {
+    i_le = omega arith;
+    same = λ j l. ⊎_elim (λ a. w.same j a) (λ b. let q : j ≡ i = omega arith in rw q e) (lt_or_ge j i);
+  }
+
+  pub match_not : i < length text → get_or s (at + i) 0 ≢ get_or text i 0 → (◌≡◌ {A = Bool} false true) ↔ Stands s at text
+  match_not h e = no_iff (λ t. e (t.same i h))
+
+  pub match_all : length text ≤ i → at + length text ≤ length s → (◌≡◌ {A = Bool} true true) ↔ Stands s at text
+  match_all h f = (λ e. record { within = f; same = λ j l. w.same j (omega (arith, w.i_le)) }, λ t. refl)
+
+-- BLANKS COUNTED: the first i bytes
+pub record Blanked (s : List ℕ) (from i : ℕ) : Type 0 where
+  pub before : (j : ℕ) → j < i → get_or s (from + j) 0 ≡ 32
+
+pub past_none : (s : List ℕ) (from : ℕ) → Blanked s from 0
+past_none s from = record { before = λ j h. absurd (omega arith) }
+
+pub past_more : {s : List ℕ} {from i : ℕ} → Blanked s from i → get_or s (from + i) 0 ≡ 32 → Blanked s from (i + 1)
+past_more {s} {from} {i} w e = record { before = λ j h. ⊎_elim (λ a. w.before j a) (λ b. let q : j ≡ i = omega arith in rw q e) (lt_or_ge j i) }
 
 -- DIGITS
 pub digit_low : (c : ℕ) → is_digit c ≡ true → 48 ≤ c

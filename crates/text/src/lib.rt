@@ -24,7 +24,12 @@ pub fn blank(s: &[u8], at: usize, n: usize) -> bool
     requires { at + n ≤ length s.now }
     ensures { (result ≡ true) ↔ Stands s.now at (blanks n) }
 {
-    s[at..at + n].iter().all(|b| *b == BLANK)
+    // Whether the first i are blanks.
+    let mut all = true;
+    for i in 0..n {
+        all = all & (s[at + i] == BLANK);
+    }
+    all
 }
 
 // Whether a text stands at a place.
@@ -32,7 +37,13 @@ pub fn text_at(s: &[u8], at: usize, text: &[u8]) -> bool
     requires { at + length text.now ≤ length s.now }
     ensures { (result ≡ true) ↔ Stands s.now at text.now }
 {
-    &s[at..at + text.len()] == text
+    // The first i bytes of the text stand there.
+    for i in 0..text.len() {
+        if s[at + i] != text[i] {
+            return false;
+        }
+    }
+    true
 }
 
 // How many blanks there are from a place on, n at the most.
@@ -40,10 +51,13 @@ fn blanks_from(s: &[u8], from: usize, n: usize) -> usize
     requires { from + n ≤ length s.now }
     ensures { PastBlanks s.now from n result }
 {
-    s[from..from + n]
-        .iter()
-        .position(|b| *b != BLANK)
-        .unwrap_or(n)
+    // The first i are blanks.
+    for i in 0..n {
+        if s[from + i] != BLANK {
+            return i;
+        }
+    }
+    n
 }
 
 // Whether a byte is a digit, and the digit that it is.

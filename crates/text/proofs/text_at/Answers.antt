@@ -1,8 +1,18 @@
--- `text::text_at` meets its contract. Assumes nothing.
-use Rattle.std.proofs.Common.{arith}
-use Rattle.text.proofs.Readings.{text_stands}
+use Rattle.text.proofs.Readings.{match_none, match_more, match_not, match_all}
 use Rattle.text.proofs.text_at.Goals as goal
+
+pub loop-i-init : goal.loop-i-init
+loop-i-init c =
+    match_none _ _ _
+
+pub returns-then-s-at : goal.returns-then-s-at
+returns-then-s-at c =
+    match_not c.loop-i.invariant c.loop-i-test.true c.if-s-at.true
+
+pub loop-i-preserved : goal.loop-i-preserved
+loop-i-preserved c =
+    match_more c.loop-i.invariant c.loop-i-test.true c.if-s-at.false
 
 pub returns : goal.returns
 returns c =
-    text_stands c.requires (omega arith) c.eq.ensures
+    match_all c.loop-i.invariant c.loop-i-test.false c.requires

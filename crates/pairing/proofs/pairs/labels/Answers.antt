@@ -1,7 +1,7 @@
 use mathlib.Core.Path.{◌≡◌, refl, subst}
 use Prim.Native.Nat.{ℕ, ◌+◌, ◌*◌}
 use Rattle.pairing.specs.Keys.{label_pair}
-use Rattle.pairing.proofs.Steps.{PairsLeft, pairs_all, pairs_more, pairs_no, pairs_end}
+use Rattle.pairing.proofs.Steps.{PairsLeft, pairs_all, pairs_more, pairs_no, halves_end}
 use native.Mathlib.Omega.{arith}
 use Rattle.pairing.proofs.pairs.labels.Goals as goal
 
@@ -25,4 +25,4 @@ loop-h-preserved c =
 
 pub returns : goal.returns
 returns c =
-    pairs_end c.loop-h.h refl c.loop-h.invariant c.loop-h-test.false
+    halves_end c.loop-h.h refl c.loop-h.invariant c.loop-h-test.false
